@@ -1,0 +1,11 @@
+pub mod Types
+pub mod Keys
+pub mod Maps
+pub mod Contents
+pub mod Views
+pub mod Marks
+pub mod Machine
+pub mod MachineCode
+pub mod Ranges
+pub mod Run
+pub mod Laws

@@ -1,0 +1,4 @@
+pub mod Orders
+pub mod PlaceLemmas
+pub mod Scan
+pub mod Writes

@@ -1,0 +1,10 @@
+pub mod Packets
+pub mod Replica
+pub mod Mail
+pub mod World
+pub mod WorldCode
+pub mod Calls
+pub mod Answering
+pub mod Stopped
+pub mod Steps
+pub mod Report

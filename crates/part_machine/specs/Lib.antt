@@ -1,0 +1,4 @@
+pub mod Kept
+pub mod InHalf
+pub mod Part
+pub mod PartCode

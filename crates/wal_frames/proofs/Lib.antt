@@ -1,0 +1,5 @@
+pub mod Peers
+pub mod Within
+pub mod Laws
+pub mod Decoding
+pub mod Lengths

@@ -1,0 +1,112 @@
+//! Writing frames.
+ghost use Rattle.std.specs.Prelude.{◌≡◌, ◌<◌, ◌^◌, ◌++◌, length, IfOk, OnOk};
+ghost use Rattle.std.specs.List.{flat_map, AllByRecursion};
+ghost use Rattle.raft_log.specs.Config.{IsConfig, IsItem, AreEntries};
+ghost use Rattle.wal_frames.specs.Spelling.{config, item, entry, entries, body, frame, FitsConfig, FitsItem, FitsEntry, FitEntries, FitsRecord};
+
+use crate::Frame;
+use byte_fields::Writer;
+use lists::NoMemory;
+use raft_log::{Config, Entries, Entry, Item, Record};
+use std::alloc::Global;
+
+fn put_config(out: &mut Writer, members: &Config) -> Result<(), NoMemory>
+    requires { IsConfig members.now }
+    ensures ok { OnOk result (out.new ≡ out.old ++ config members.now) }
+    ensures fits { OnOk result (FitsConfig members.now) }
+{
+    let voters = members.voters.as_slice();
+    let learners = members.learners.as_slice();
+    out.put_byte(voters.len() as u8)?;
+    out.put_ids(voters)?;
+    out.put_byte(learners.len() as u8)?;
+    out.put_ids(learners)
+}
+
+fn put_item(out: &mut Writer, held: &Item) -> Result<(), NoMemory>
+    requires { IsItem held.now }
+    ensures ok { OnOk result (out.new ≡ out.old ++ item held.now) }
+    ensures fits { OnOk result (FitsItem held.now) }
+{
+    match held {
+        Item::NoOp => out.put_byte(0),
+        Item::Members(members) => {
+            out.put_byte(1)?;
+            put_config(out, members)
+        }
+        Item::Payload(bytes) => {
+            out.put_byte(2)?;
+            out.put_run(bytes.as_slice())
+        }
+    }
+}
+
+fn put_entry(out: &mut Writer, made: &Entry) -> Result<(), NoMemory>
+    requires item { IsItem made.now.item }
+    requires fits { length (item made.now.item) < 2 ^ 32 }
+    ensures ok { OnOk result (out.new ≡ out.old ++ entry made.now) }
+    ensures fits { OnOk result (FitsEntry made.now) }
+{
+    out.put_u64(made.term)?;
+    let at = out.len();
+    out.put_u32(0)?;
+    put_item(out, &made.item)?;
+    out.fill_length(at);
+    Ok(())
+}
+
+fn put_each(out: &mut Writer, list: &[Entry]) -> Result<(), NoMemory>
+    requires are { AreEntries list.now }
+    requires fits { length (flat_map entry list.now) < 2 ^ 32 }
+    ensures ok { OnOk result (out.new ≡ out.old ++ flat_map entry list.now) }
+    ensures fits { OnOk result (AllByRecursion FitsEntry list.now) }
+{
+    for made in list {
+        put_entry(out, made)?;
+    }
+    Ok(())
+}
+
+/// Puts entries behind their count. After a refusal, which comes for want of memory alone, some of them may stand.
+/// Entries that were put have a spelling that `read_entries` reads again.
+pub fn put_entries(out: &mut Writer, list: &Entries) -> Result<(), NoMemory>
+    requires are { AreEntries list.now }
+    requires fits { length (entries list.now) < 2 ^ 32 }
+    ensures ok { OnOk result (out.new ≡ out.old ++ entries list.now) }
+    ensures fits { OnOk result (FitEntries list.now) }
+{
+    out.put_u32(list.len() as u32)?;
+    put_each(out, list.as_slice())?;
+    Ok(())
+}
+
+fn put_body(out: &mut Writer, made: &Record) -> Result<(), NoMemory>
+    requires are { AreEntries made.now.entries }
+    requires fits { length (body made.now) < 2 ^ 32 }
+    ensures ok { OnOk result (out.new ≡ out.old ++ body made.now) }
+    ensures fits { OnOk result (FitsRecord made.now) }
+{
+    out.put_u64(made.term)?;
+    out.put_u32(made.vote)?;
+    out.put_u64(made.keep)?;
+    put_entries(out, &made.entries)
+}
+
+/// The record's frame. Its configurations are ones, and its body's length fits four bytes. Refused for want of
+/// memory alone; a record that has a frame is one that `decode` reads again.
+pub fn encode(alloc: Global, made: &Record) -> Result<Frame, NoMemory>
+    requires are { AreEntries made.now.entries }
+    requires fits { length (body made.now) < 2 ^ 32 }
+    ensures ok { IfOk result (λ framed. framed ≡ frame made.now) }
+    ensures fits { OnOk result (FitsRecord made.now) }
+{
+    let mut out = Writer::new(alloc);
+    out.put_u32(0)?;
+    put_body(&mut out, made)?;
+    out.fill_length(0);
+    out.put_byte(CLOSED_GATE)?;
+    Ok(out.into_bytes())
+}
+
+// The gate byte behind which nothing counts.
+const CLOSED_GATE: u8 = 0;
