@@ -12,6 +12,7 @@ use outside_io::{StdSink, StdSource};
 use std::alloc::Global;
 use std::env;
 use std::env::Args;
+use std::io::ErrorKind;
 use std::process::ExitCode;
 
 /// The status where a word isn't a text, and so isn't one that is wanted.
@@ -31,7 +32,10 @@ fn main(rt: HostRuntime) -> ExitCode {
             }
             Err(NoMemory) => NO_MEMORY,
         },
-        Err(_) => WRONG_WORDS,
+        Err(error) => match error.kind() {
+            ErrorKind::OutOfMemory => NO_MEMORY,
+            _ => WRONG_WORDS,
+        },
     };
     if status != 0 {
         let _ = eprintln!(rt; "nebstore: status {status}");
