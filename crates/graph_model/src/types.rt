@@ -36,6 +36,13 @@ impl Types {
         })
     }
 
+    /// The types, rising.
+    pub fn as_slice(&self) -> &[i32]
+        ensures { result.now ≡ self.now }
+    {
+        self.types.as_slice()
+    }
+
     /// Whether this type is among them.
     pub fn has(&self, etype: i32) -> bool
         ensures { result ≡ list_any (λ t. int_eq t etype) self.now }

@@ -1,8 +1,8 @@
 -- A call begins: its request is sent, and an edge's chain begins at its source.
-use Rattle.std.proofs.Common.{◌≡◌, ◌≢◌, ℕ, ◌+◌, ◌≤◌, ◌<◌, length, List, [], ◌∷◌, ◌++◌, Option, Some, None, Bool, true, false, refl, ap, sym, subst, ◌∙◌, arith, rules, length-append, inl, inr}
-use Rattle.std.specs.Prelude.{IsSome, nat_lt, ◌==◌, option_to_list, if◌then◌else◌}
+use Rattle.std.proofs.Common.{◌≡◌, ℕ, ◌+◌, ◌≤◌, ◌<◌, length, List, [], ◌∷◌, ◌++◌, Option, Some, None, true, false, refl, ap, sym, ◌∙◌, arith, rules, length-append, inl, inr}
+use Rattle.std.specs.Prelude.{IsSome, nat_lt, ◌==◌}
 use Rattle.std.specs.Option.{option_map}
-use Rattle.std.specs.FinMap.{get, insert}
+use Rattle.std.specs.FinMap.{get}
 use Rattle.std.specs.Cmp.{nat_cmp_total}
 use Rattle.std.specs.Ordering.{eq_by_cmp}
 use Rattle.graph_model.specs.Keys.{call_cmp, in_key}
@@ -23,20 +23,18 @@ use Rattle.part_machine.specs.InHalf.{number_of, row_in}
 use Rattle.part_machine.specs.Part.{Part, where_new, primed, begun}
 use Rattle.part_machine.specs.declared.clients.Kept.{Kept}
 use Rattle.part_machine.specs.declared.clients.Outcome.TheVariants.{Open as OpenThen}
-use Rattle.part_machine.specs.declared.part_entry.PartEntry.{PartEntry}
-use Rattle.part_machine.specs.declared.part_entry.PartEntry.TheVariants.{Prime}
+use Rattle.part_keys.specs.declared.entry.PartEntry.TheVariants.{Prime}
 use Rattle.part_machine.specs.declared.applied.Applied.{Applied}
 use Rattle.part_machine.specs.declared.applied.Applied.TheVariants.{Begun}
-use Rattle.nebstore_app.specs.declared.packet.Packet.{Packet}
 use Rattle.nebstore_app.specs.declared.event.Event.TheVariants.{Invoke, Deliver}
-use Rattle.nebstore_app.specs.Replica.{Replica, next_index}
+use Rattle.nebstore_app.specs.Replica.{next_index}
 use Rattle.nebstore_app.specs.Packets.{part_of, the_client, request, request_of}
-use Rattle.nebstore_app.specs.World.{World, replica_of, next_call, last_call, invoked, noted, after}
+use Rattle.nebstore_app.specs.World.{World, replica_of, next_call, last_call, invoked, noted}
 use Rattle.nebstore_app.specs.Steps.{Tally, sent_so_far}
 use Rattle.nebstore_app.proofs.Goes.{then_invoked, invoke_goes, then_begun, begin_goes, chain_of}
 use Rattle.nebstore_app.proofs.Homes.{replica_alike, replica_each, replica_at, map_here, map_apart}
 use Rattle.nebstore_app.proofs.Delivery.{came, then_applied, then_delivered, Brings, delivery, delivery_steps, decided_grows, sent_before, sent_behind}
-use Rattle.nebstore_app.proofs.Tied.{home, kept_number, Tied, NoChain, OneChain, prime_of, CallIs, AtRest, UnderWay, Asked, Crossing, remote_packet, Phase, asked, crossing, Next, next, tally_at, moments_counted, now_taken, past_longer}
+use Rattle.nebstore_app.proofs.Tied.{kept_number, Tied, NoChain, prime_of, CallIs, AtRest, UnderWay, remote_packet, asked, crossing, Next, next, moments_counted, now_taken, past_longer}
 
 some_of : {A : Type 0} (o : Option A) → IsSome o → (x : A) × (o ≡ Some x)
 some_of None h = cc

@@ -1,15 +1,15 @@
 -- A call, from its invocation to its reply.
-use Rattle.std.proofs.Common.{◌≡◌, ℕ, ◌+◌, ◌≤◌, ◌<◌, length, List, [], ◌∷◌, ◌++◌, append_assoc, Option, Some, None, Bool, true, false, refl, ap, sym, subst, ◌∙◌, arith, take}
+use Rattle.std.proofs.Common.{◌≡◌, ℕ, ◌+◌, ◌<◌, length, List, [], ◌∷◌, ◌++◌, Option, Some, None, true, refl, ap, sym, subst, ◌∙◌, arith}
 use Rattle.std.specs.Prelude.{IsSome, slice_get}
 use Rattle.graph_model.specs.declared.answer.Answer.{Answer}
 use Rattle.graph_model.specs.declared.call_id.CallId.{CallId}
 use Rattle.graph_model.specs.declared.op.Op.{Op}
-use Rattle.part_machine.specs.declared.part_entry.PartEntry.{PartEntry}
+use Rattle.part_keys.specs.declared.entry.PartEntry.{PartEntry}
 use Rattle.nebstore_app.specs.declared.event.Event.{Event}
 use Rattle.nebstore_app.specs.declared.event.Event.TheVariants.{Invoke, Deliver, Reply}
 use Rattle.nebstore_app.specs.declared.packet.Packet.{Packet}
 use Rattle.nebstore_app.specs.Packets.{the_client, request_of, entry_in}
-use Rattle.nebstore_app.specs.World.{World, start, after, done, delivered, received, invoked, noted, next_call, last_call, answer_due, Lawful, Run, IsReached}
+use Rattle.nebstore_app.specs.World.{World, start, after, done, delivered, received, invoked, next_call, last_call, answer_due, Lawful, Run, IsReached}
 use Rattle.nebstore_app.specs.Calls.{calls_of, replies_of, IsQuiet, HasCalled, HasStopped}
 use Rattle.nebstore_app.proofs.Counted.{delivered-last}
 

@@ -1,14 +1,13 @@
 -- The calls of a run are no more than its events.
-use Rattle.std.proofs.Common.{◌≡◌, ℕ, ◌+◌, ◌≤◌, length, arith, List, [], ◌∷◌, ◌++◌, Option, Some, None, Bool, true, false, refl, ap, sym, subst, ◌∙◌}
-use Rattle.std.specs.Prelude.{if◌then◌else◌, ◌==◌, slice_get}
+use Rattle.std.proofs.Common.{◌≡◌, ℕ, ◌+◌, ◌≤◌, length, arith, List, [], ◌∷◌, Option, Some, None, refl, ap}
+use Rattle.std.specs.Prelude.{slice_get}
 use Rattle.nebstore_app.specs.declared.event.Event.{Event}
 use Rattle.nebstore_app.specs.declared.event.Event.TheVariants.{Invoke, Deliver, Reply}
 use Rattle.nebstore_app.specs.declared.packet.Packet.{Packet}
-use Rattle.part_machine.specs.declared.part_entry.PartEntry.{PartEntry}
-use Rattle.nebstore_app.specs.Packets.{entry_in, answer_in, request_of}
+use Rattle.part_keys.specs.declared.entry.PartEntry.{PartEntry}
+use Rattle.nebstore_app.specs.Packets.{entry_in, request_of}
 use Rattle.graph_model.specs.declared.call_id.CallId.{CallId}
-use Rattle.graph_model.specs.declared.op.Op.{Op}
-use Rattle.nebstore_app.specs.World.{World, start, after, done, delivered, received, invoked, Lawful, Run, IsReached}
+use Rattle.nebstore_app.specs.World.{World, start, after, delivered, received, invoked, Lawful, Run, IsReached}
 
 received-last : (w : World) (k : ℕ) (p : Packet) (x : Option (ℕ × PartEntry)) → (received w k p x).last ≡ w.last
 received-last w k p None = refl

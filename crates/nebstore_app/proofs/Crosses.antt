@@ -1,45 +1,28 @@
 -- The new half comes to the edge's destination, and the in-half is written.
-use Rattle.std.proofs.Common.{◌≡◌, ◌≢◌, ◌⊎◌, ℕ, ◌+◌, ◌≤◌, ◌<◌, length, List, [], ◌∷◌, ◌++◌, Option, Some, None, Bool, true, false, refl, ap, sym, subst, ◌∙◌, arith, rules, length-append, inl, inr}
-use Rattle.std.specs.Prelude.{nat_lt, ◌==◌, not, ◌&&◌, option_to_list, if◌then◌else◌}
+use Rattle.std.proofs.Common.{◌≡◌, ℕ, ◌≤◌, ◌<◌, length, [], ◌∷◌, Some, Bool, true, false, refl, ap, sym, subst, ◌∙◌, arith, rules, inl, inr}
+use Rattle.std.specs.Prelude.{nat_lt, if◌then◌else◌}
 use Rattle.std.specs.Option.{option_map}
-use Rattle.std.specs.FinMap.{get, insert, remove}
-use Rattle.std.specs.Cmp.{nat_cmp_total}
-use Rattle.std.specs.Ordering.{eq_by_cmp}
-use Rattle.graph_model.specs.Keys.{edge_cmp, in_cmp, in_key}
-use Rattle.graph_model.specs.Maps.{altered}
-use Rattle.graph_model.specs.Marks.{with_in_done, with_out_done, with_shown, with_state}
+use Rattle.std.specs.FinMap.{get}
+use Rattle.graph_model.specs.Keys.{in_key}
+use Rattle.graph_model.specs.Marks.{with_in_done}
 use Rattle.graph_model.specs.Contents.{row_of, changed}
 use Rattle.graph_model.specs.Machine.{Machine}
-use Rattle.graph_model.specs.declared.edge_id.EdgeId.{EdgeId}
-use Rattle.graph_model.specs.declared.in_key.InKey.{InKey}
-use Rattle.graph_model.specs.declared.call_id.CallId.{CallId}
-use Rattle.graph_model.specs.declared.half.Half.{Half}
-use Rattle.graph_model.specs.declared.op.Op.{Op}
-use Rattle.graph_model.specs.declared.change.Change.TheVariants.{Nothing, Out, In}
-use Rattle.graph_model.specs.declared.answer.Answer.TheVariants.{Fine}
-use Rattle.graph_model.specs.declared.call.CallState.TheVariants.{Begun as BegunState, Done as DoneState}
+use Rattle.graph_model.specs.declared.change.Change.TheVariants.{In}
 use Rattle.graph_model.specs.declared.graph_step.GStep.TheVariants as step
-use Rattle.graph_model.proofs.KeyLemmas.{edges_total, edges_exact, ins_total, ins_exact, calls_total, calls_exact}
+use Rattle.graph_model.proofs.KeyLemmas.{edges_total, ins_total, ins_exact}
 use Rattle.graph_model.proofs.Updates.{same_or_apart, with_at_here, with_at_apart, altered_here, altered_apart}
 use Rattle.part_machine.specs.InHalf.{number_of, row_in}
-use Rattle.part_machine.specs.Kept.{settled}
-use Rattle.part_machine.specs.Part.{Part, is_fresh, written, localized, settling}
-use Rattle.part_machine.specs.declared.clients.Kept.{Kept}
-use Rattle.part_machine.specs.declared.part_entry.PartEntry.{PartEntry}
-use Rattle.part_machine.specs.declared.part_entry.PartEntry.TheVariants.{Remote, Local}
-use Rattle.part_machine.specs.declared.applied.Applied.{Applied}
-use Rattle.part_machine.specs.declared.applied.Applied.TheVariants.{Done, Settled, Nothing as NothingDone}
-use Rattle.nebstore_app.specs.declared.packet.Packet.{Packet}
+use Rattle.part_machine.specs.Part.{is_fresh, written}
+use Rattle.part_keys.specs.declared.entry.PartEntry.TheVariants.{Remote}
+use Rattle.part_machine.specs.declared.applied.Applied.TheVariants.{Done}
 use Rattle.nebstore_app.specs.declared.event.Event.TheVariants.{Deliver}
-use Rattle.nebstore_app.specs.Replica.{Replica, next_index}
-use Rattle.nebstore_app.specs.Packets.{part_of, the_client, the_term, answer_packet}
+use Rattle.nebstore_app.specs.Packets.{part_of, the_client, the_term}
 use Rattle.nebstore_app.specs.World.{World, replica_of, last_call}
 use Rattle.nebstore_app.specs.Steps.{Tally, sent_so_far}
-use Rattle.nebstore_app.proofs.Goes.{then_in, in_goes, then_out, out_goes, then_settled, settle_goes, chain_of}
-use Rattle.nebstore_app.proofs.Homes.{replica_alike, replica_each, replica_at, map_here, map_apart}
+use Rattle.nebstore_app.proofs.Goes.{then_in, in_goes}
+use Rattle.nebstore_app.proofs.Homes.{replica_alike, map_here, map_apart}
 use Rattle.nebstore_app.proofs.Delivery.{came, then_applied, then_delivered, Brings, delivery, delivery_steps, decided_grows, sent_before, sent_behind}
-use Rattle.nebstore_app.proofs.Tied.{home, kept_number, Tied, NoChain, OneChain, prime_of, CallIs, UnderWay, Crossing, Returning, Answered, remote_packet, done_packet, Phase, returning, answered, Next, next, tally_at, moments_counted, now_taken, past_longer, Right, settled as right_settled}
-use Rattle.nebstore_app.proofs.Begins.{calls_apart}
+use Rattle.nebstore_app.proofs.Tied.{home, kept_number, Tied, Crossing, remote_packet, done_packet, returning, Next, next, moments_counted, now_taken, past_longer}
 
 lt_true : (a b : ℕ) → a < b → nat_lt a b ≡ true
 lt_true a b h = search rules

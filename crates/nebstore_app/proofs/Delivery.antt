@@ -1,13 +1,10 @@
 -- What the delivery of the one packet under way makes of the world.
-use Rattle.std.proofs.Common.{◌≡◌, ℕ, ◌+◌, ◌≤◌, ◌<◌, length, List, [], ◌∷◌, ◌++◌, drop, Option, Some, None, Bool, true, false, refl, ap, sym, subst, ◌∙◌, arith, length-append, inl, inr}
-use Rattle.std.specs.Prelude.{slice_get, option_to_list}
+use Rattle.std.proofs.Common.{◌≡◌, ℕ, ◌+◌, ◌≤◌, length, List, [], ◌∷◌, ◌++◌, drop, Option, Some, None, ap, ◌∙◌, arith, length-append, inl, inr}
+use Rattle.std.specs.Prelude.{slice_get}
 use Rattle.graph_model.specs.declared.answer.Answer.{Answer}
-use Rattle.graph_model.specs.declared.call_id.CallId.{CallId}
-use Rattle.graph_model.specs.declared.graph_step.GStep.{GStep}
 use Rattle.part_machine.specs.Part.{Part, applied}
-use Rattle.part_machine.specs.declared.part_entry.PartEntry.{PartEntry}
+use Rattle.part_keys.specs.declared.entry.PartEntry.{PartEntry}
 use Rattle.part_machine.specs.declared.applied.Applied.{Applied}
-use Rattle.nebstore_app.specs.declared.due.Due.{Due}
 use Rattle.nebstore_app.specs.declared.packet.Packet.{Packet}
 use Rattle.nebstore_app.specs.declared.event.Event.TheVariants.{Deliver}
 use Rattle.nebstore_app.specs.Replica.{Replica, next_index}

@@ -1,33 +1,27 @@
 -- The answer comes to the client, and the client replies.
-use Rattle.std.proofs.Common.{◌≡◌, ℕ, ◌+◌, ◌-◌, ◌≤◌, ◌<◌, length, List, [], ◌∷◌, ◌++◌, replicate, Option, Some, None, Bool, true, false, refl, ap, sym, subst, ◌∙◌, arith, rules, length-append}
-use Rattle.std.specs.Prelude.{◌&&◌, ◌==◌, not, is_some, if◌then◌else◌, slice_index}
+use Rattle.std.proofs.Common.{◌≡◌, ℕ, ◌-◌, length, List, [], ◌∷◌, ◌++◌, replicate, Some, None, true, false, refl, ap, sym, ◌∙◌, arith, rules, length-append}
+use Rattle.std.specs.Prelude.{◌==◌, slice_index}
 use Rattle.std.specs.Option.{option_map}
-use Rattle.std.specs.FinMap.{get}
 use Rattle.graph_model.specs.Marks.{with_state, with_said}
 use Rattle.graph_model.specs.Views.{view_of}
 use Rattle.graph_model.specs.Machine.{Machine, contents_at}
-use Rattle.graph_model.specs.Run.{Run as GraphRun}
 use Rattle.graph_model.specs.declared.call_id.CallId.{CallId}
-use Rattle.graph_model.specs.declared.op.Op.{Op}
-use Rattle.graph_model.specs.declared.op.Op.TheVariants.{Read as ReadOp}
-use Rattle.graph_model.specs.declared.query.Query.{Query}
-use Rattle.graph_model.specs.declared.found.Found.{Found}
 use Rattle.graph_model.specs.declared.change.Change.TheVariants.{Nothing}
 use Rattle.graph_model.specs.declared.answer.Answer.{Answer}
 use Rattle.graph_model.specs.declared.answer.Answer.TheVariants.{Fine, Shown}
-use Rattle.graph_model.specs.declared.call.CallState.TheVariants.{Open, Done}
+use Rattle.graph_model.specs.declared.call.CallState.TheVariants.{Done}
 use Rattle.graph_model.specs.declared.graph_step.GStep.TheVariants as step
 use Rattle.graph_model.proofs.KeyLemmas.{calls_total}
 use Rattle.graph_model.proofs.Updates.{altered_here, altered_apart}
 use Rattle.nebstore_app.specs.declared.due.Due.{Due}
 use Rattle.nebstore_app.specs.declared.event.Event.TheVariants.{Deliver, Reply}
 use Rattle.nebstore_app.specs.Packets.{the_client, answer_packet}
-use Rattle.nebstore_app.specs.World.{World, last_call, noted, due_after, answer_due}
-use Rattle.nebstore_app.specs.Steps.{Tally, sent_so_far, steps_of_reply, moment_of}
+use Rattle.nebstore_app.specs.World.{World, last_call, noted, due_after}
+use Rattle.nebstore_app.specs.Steps.{Tally, sent_so_far, moment_of}
 use Rattle.nebstore_app.proofs.Goes.{then_done, read_goes, then_said, reply_goes}
 use Rattle.nebstore_app.proofs.Delivery.{came, told_delivery, told_steps, sent_before}
 use Rattle.nebstore_app.proofs.Begins.{calls_apart}
-use Rattle.nebstore_app.proofs.Tied.{home, Tied, NoChain, CallIs, AtRest, Answered, Over, Phase, over, at_rest, Next, next, tally_at, moments_counted, now_taken, past_longer, contents_now, Right, settled, read}
+use Rattle.nebstore_app.proofs.Tied.{Tied, NoChain, Answered, over, at_rest, Next, next, moments_counted, now_taken, past_longer, contents_now, Right, settled, read}
 
 none_more : (xs : List ℕ) → xs ++ [] ≡ xs
 none_more [] = refl

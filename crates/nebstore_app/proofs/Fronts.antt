@@ -1,5 +1,5 @@
 -- Fronts of lists, and what is written behind what was.
-use Rattle.std.proofs.Common.{◌≡◌, ℕ, ◌+◌, ◌≤◌, length, List, [], ◌∷◌, ◌++◌, append_assoc, take, zero, suc, Option, Some, None, refl, ap, sym, subst, ◌∙◌, arith, zero-add}
+use Rattle.std.proofs.Common.{◌≡◌, ℕ, ◌+◌, length, List, [], ◌∷◌, ◌++◌, append_assoc, take, zero, suc, Option, Some, None, refl, ap, sym, ◌∙◌, arith, zero-add}
 use Rattle.outside_io.specs.Bytes.{Appends, AppendsFront, behind_told}
 
 pub none_more : {A : Type 0} (xs : List A) → xs ++ [] ≡ xs

@@ -1,7 +1,7 @@
 -- Steps of the graph machine that are taken: what holds before, and what comes of it.
 use Rattle.std.proofs.Common.{◌≡◌, ℕ, ◌+◌, ◌≤◌, length, List, [], ◌∷◌, ◌++◌, Option, Some, None, Ok, Bool, true, false, refl, ap, sym, subst, ◌∙◌, inl, inr, arith}
-use Rattle.std.specs.Prelude.{not, ◌&&◌, nat_le, IsTrue}
-use Rattle.std.specs.FinMap.{get, insert, remove, contains_key}
+use Rattle.std.specs.Prelude.{not, ◌&&◌, nat_le}
+use Rattle.std.specs.FinMap.{get, insert, remove}
 use Rattle.graph_model.specs.declared.val.Val.{Val}
 use Rattle.graph_model.specs.declared.edge_id.EdgeId.{EdgeId}
 use Rattle.graph_model.specs.declared.call_id.CallId.{CallId}

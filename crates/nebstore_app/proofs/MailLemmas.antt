@@ -1,5 +1,5 @@
 -- The packets that came and those under way, as one more comes.
-use Rattle.std.proofs.Common.{◌≡◌, ℕ, ◌+◌, ◌<◌, length, arith, List, [], ◌∷◌, ◌++◌, take, drop, zero, suc, refl, ap, sym, ◌∙◌}
+use Rattle.std.proofs.Common.{◌≡◌, ℕ, List, [], ◌∷◌, ◌++◌, take, drop, zero, suc, refl, ap}
 use Rattle.std.specs.Prelude.{slice_get, option_to_list}
 
 -- one more of the list

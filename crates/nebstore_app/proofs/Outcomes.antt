@@ -1,11 +1,9 @@
 -- What a status says, by how the reading of the script ended.
-use Rattle.std.proofs.Common.{◌≡◌, ◌≤◌, ◌<◌, ◌⊎◌, inl, inr, ℕ, List, [], ◌∷◌, length, take, zero, suc, Option, Bool, true, false, refl, ap, sym, subst, ◌∙◌, arith}
+use Rattle.std.proofs.Common.{◌≡◌, ◌≤◌, ◌<◌, ◌⊎◌, inl, inr, ℕ, List, [], ◌∷◌, length, take, zero, suc, Option, Bool, true, false, refl, ap, sym, subst, arith}
 use Rattle.first_script.specs.Works.{works}
 use Rattle.first_script.specs.Lines.{whole_lines}
-use Rattle.first_script.specs.declared.work.Work.{Work}
 use Rattle.outside_io.specs.Bytes.{IsEnded}
 use Rattle.nebstore_app.specs.declared.event.Event.{Event}
-use Rattle.nebstore_app.specs.World.{start}
 use Rattle.nebstore_app.specs.Answering.{most_bytes, script_of, lines_by}
 use Rattle.nebstore_app.specs.Report.{Outcome, RanTo, RunsToEnd, StopsEarly}
 use Rattle.nebstore_app.proofs.Fronts.{nothing_written}

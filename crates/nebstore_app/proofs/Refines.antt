@@ -1,41 +1,34 @@
 -- Each run of the world gives a run of the graph machine.
-use Rattle.std.proofs.Common.{◌≡◌, ◌⊎◌, ℕ, ◌+◌, ◌≤◌, ◌<◌, length, List, [], ◌∷◌, ◌++◌, append_assoc, Option, Some, None, Bool, true, false, refl, ap, sym, subst, ◌∙◌, arith}
-use Rattle.std.specs.Prelude.{IsSome, is_some, ◌==◌, if◌then◌else◌, slice_get}
+use Rattle.std.proofs.Common.{◌≡◌, ℕ, ◌<◌, length, List, [], ◌∷◌, ◌++◌, Some, None, true, false, refl, ap, sym, subst, ◌∙◌, arith}
+use Rattle.std.specs.Prelude.{IsSome, ◌==◌, if◌then◌else◌}
 use Rattle.std.specs.Option.{option_map}
 use Rattle.std.specs.FinMap.{get, get-empty}
 use Rattle.std.specs.Ordering.{nat_cmp}
 use Rattle.graph_model.specs.Keys.{edge_cmp, in_cmp, call_cmp}
 use Rattle.graph_model.specs.Machine.{Machine, start as nothing_yet}
-use Rattle.graph_model.specs.Run.{Run as GraphRun, trace}
+use Rattle.graph_model.specs.Run.{Run as GraphRun}
 use Rattle.graph_model.specs.declared.answer.Answer.{Answer}
-use Rattle.graph_model.specs.declared.answer.Answer.TheVariants.{Fine, Skipped, Pending, Conflict, Cancelled, Unknown, Shown}
 use Rattle.graph_model.specs.declared.call_id.CallId.{CallId}
 use Rattle.graph_model.specs.declared.op.Op.{Op}
 use Rattle.graph_model.specs.declared.op.Op.TheVariants.{PutEdge, DelEdge, PutVertex, DelVertex, Read as ReadOp}
 use Rattle.graph_model.specs.declared.query.Query.TheVariants.{Tag, Edge, Out, In, Both}
 use Rattle.graph_model.specs.declared.call.CallState.TheVariants.{Open}
 use Rattle.graph_model.specs.declared.graph_step.GStep.{GStep}
-use Rattle.graph_model.specs.declared.graph_step.GStep.TheVariants as step
 use Rattle.part_machine.specs.InHalf.{number_of, row_in}
-use Rattle.part_machine.specs.Part.{Part, is_fresh}
-use Rattle.part_machine.specs.declared.part_entry.PartEntry.{PartEntry}
-use Rattle.part_machine.specs.declared.part_entry.PartEntry.TheVariants.{Prime, Local, Remote, Read}
-use Rattle.part_machine.specs.declared.applied.Applied.{Applied}
-use Rattle.part_machine.specs.declared.applied.Applied.TheVariants.{Old, Again, Conflict as ConflictThen, Skipped as SkippedThen, Begun, Settled, Done, Shown as ShownThen, Nothing}
 use Rattle.nebstore_app.specs.declared.due.Due.{Due}
 use Rattle.nebstore_app.specs.declared.packet.Packet.{Packet}
 use Rattle.nebstore_app.specs.declared.event.Event.{Event}
 use Rattle.nebstore_app.specs.declared.event.Event.TheVariants.{Invoke, Deliver, Reply}
-use Rattle.nebstore_app.specs.Replica.{Replica, fresh, answer_to}
-use Rattle.nebstore_app.specs.Packets.{part_of, the_client, request_of, entry_in}
-use Rattle.nebstore_app.specs.World.{World, start, replica_of, last_call, next_call, answer_due, after, Lawful, Run, IsReached}
-use Rattle.nebstore_app.specs.Steps.{Tally, at_start, steps_of_entry, steps_at, steps_of_delivery, steps_of_reply, steps_of_event, steps_from, steps_of, tallied, trace_of, moment_of, IsGraphRun}
+use Rattle.nebstore_app.specs.Replica.{fresh}
+use Rattle.nebstore_app.specs.Packets.{part_of, the_client, request_of}
+use Rattle.nebstore_app.specs.World.{World, start, replica_of, last_call, answer_due, after, Lawful, Run, IsReached}
+use Rattle.nebstore_app.specs.Steps.{Tally, at_start, steps_of_event, steps_from, steps_of, tallied}
 use Rattle.nebstore_app.proofs.Begins.{invoke_next, put_next}
 use Rattle.nebstore_app.proofs.Crosses.{remote_next}
 use Rattle.nebstore_app.proofs.Settles.{done_next}
 use Rattle.nebstore_app.proofs.Shows.{read_next, out_same, in_same}
 use Rattle.nebstore_app.proofs.Ends.{answer_next, reply_next}
-use Rattle.nebstore_app.proofs.Tied.{home, kept_number, Tied, NoChain, CallIs, AtRest, UnderWay, Asked, Phase, at_rest, asked, crossing, returning, answered, over, Next}
+use Rattle.nebstore_app.proofs.Tied.{kept_number, Tied, NoChain, CallIs, AtRest, UnderWay, Phase, at_rest, asked, crossing, returning, answered, over, Next}
 
 same_some : {A : Type 0} (x y : A) → Some x ≡ Some y → x ≡ y
 same_some x y e = cc

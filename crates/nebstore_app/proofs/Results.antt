@@ -1,6 +1,6 @@
 -- What is said of a result, variant by variant.
 use Rattle.std.proofs.Common.{◌≡◌, refl, subst, Ok, Err, Result}
-use Rattle.std.specs.Prelude.{IfOk, OnErr, OnOk}
+use Rattle.std.specs.Prelude.{IfOk, OnErr}
 
 pub if_ok : {A E : Type 0} (r : Result A E) (P : A → Type 0) → ((a : A) → r ≡ Ok a → P a) → IfOk r P
 if_ok (Ok a) P h = h a refl

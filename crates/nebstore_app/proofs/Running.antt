@@ -1,9 +1,6 @@
 -- A script is answered line by line: what stands between two lines.
-use Rattle.std.proofs.Common.{◌≡◌, ℕ, ◌+◌, ◌≤◌, ◌<◌, length, List, [], ◌∷◌, ◌++◌, append_assoc, take, zero, suc, Option, Some, None, Bool, true, false, refl, ap, sym, subst, ◌∙◌, arith, length-append}
-use Rattle.std.specs.List.{flat_map}
+use Rattle.std.proofs.Common.{◌≡◌, ℕ, ◌+◌, ◌≤◌, ◌<◌, length, List, [], ◌∷◌, ◌++◌, append_assoc, take, suc, Option, Bool, refl, ap, sym, subst, ◌∙◌, arith, length-append}
 use Rattle.graph_model.specs.declared.answer.Answer.{Answer}
-use Rattle.graph_model.specs.declared.call_id.CallId.{CallId}
-use Rattle.graph_model.specs.declared.op.Op.{Op}
 use Rattle.first_script.specs.Works.{work_of, works_from, works, op_of, ops_of}
 use Rattle.first_script.specs.Answers.{line_answers, statement_answer}
 use Rattle.first_script.specs.Print.{print, print_line}
@@ -16,7 +13,7 @@ use Rattle.first_script.specs.declared.work.Work.TheVariants.{Ready, Call, Refus
 use Rattle.outside_io.specs.Bytes.{Appends, AppendsFront, behind_told}
 use Rattle.nebstore_app.specs.Packets.{the_client}
 use Rattle.nebstore_app.specs.World.{World, start}
-use Rattle.nebstore_app.specs.Calls.{calls_of, replies_of, numbered, IsQuiet}
+use Rattle.nebstore_app.specs.Calls.{calls_of, numbered, IsQuiet}
 use Rattle.nebstore_app.specs.Answering.{lines_by, IsAnswered, IsPartlyAnswered, printed, AnswersLine, LeavesLine, StopsLine}
 use Rattle.nebstore_app.proofs.Fronts.{none_more, front_of_whole, behind_none, appends_both, nothing_written, front_written}
 

@@ -1,5 +1,5 @@
 -- The request of a walk comes to the part of its vertex, which shows what the graph has there.
-use Rattle.std.proofs.Common.{◌≡◌, ℕ, ℤ, ◌+◌, ◌-◌, ◌≤◌, ◌<◌, length, List, [], ◌∷◌, ◌++◌, replicate, Option, Some, None, cond, Bool, true, false, zero, suc, refl, ap, sym, subst, ◌∙◌, arith, length-append, inl, inr}
+use Rattle.std.proofs.Common.{◌≡◌, ℕ, ℤ, ◌+◌, ◌-◌, length, List, [], ◌∷◌, ◌++◌, replicate, Option, Some, None, Bool, true, false, zero, suc, refl, ap, sym, ◌∙◌, arith, length-append}
 use Rattle.std.specs.Prelude.{◌&&◌, if◌then◌else◌, slice_index}
 use Rattle.std.specs.Option.{option_map, option_and_then}
 use Rattle.std.specs.List.{list_any}
@@ -25,7 +25,7 @@ use Rattle.graph_model.proofs.KeyLemmas.{edges_total, edges_exact, ins_total, in
 use Rattle.part_machine.specs.InHalf.{number_of, row_in}
 use Rattle.part_machine.specs.Part.{seen, found_here}
 use Rattle.part_machine.specs.declared.in_halves.InHalf.{InHalf}
-use Rattle.part_machine.specs.declared.part_entry.PartEntry.TheVariants.{Read}
+use Rattle.part_keys.specs.declared.entry.PartEntry.TheVariants.{Read}
 use Rattle.part_machine.specs.declared.applied.Applied.TheVariants.{Shown}
 use Rattle.nebstore_app.specs.declared.event.Event.TheVariants.{Deliver}
 use Rattle.nebstore_app.specs.Packets.{part_of, the_client, request, answer_packet}
@@ -34,7 +34,7 @@ use Rattle.nebstore_app.specs.Steps.{Tally, sent_so_far}
 use Rattle.nebstore_app.proofs.Found.{same_found}
 use Rattle.nebstore_app.proofs.Homes.{replica_alike}
 use Rattle.nebstore_app.proofs.Delivery.{came, then_applied, then_delivered, Brings, delivery, delivery_steps, decided_grows, sent_before, sent_behind}
-use Rattle.nebstore_app.proofs.Tied.{home, kept_number, Tied, NoChain, CallIs, UnderWay, Answered, Phase, answered, Next, next, tally_at, moments_counted, Right, read}
+use Rattle.nebstore_app.proofs.Tied.{home, kept_number, Tied, NoChain, CallIs, UnderWay, answered, Next, next, moments_counted, read}
 
 nothing_found : {A B : Type 0} (f : A → Option B) (o : Option A) → ((x : A) → f x ≡ None) → option_and_then f o ≡ None
 nothing_found f None none = refl

@@ -1,18 +1,17 @@
 -- How the world and the graph machine hang together at each moment of a run.
-use Rattle.std.proofs.Common.{◌≡◌, ℕ, ℤ, ◌+◌, ◌-◌, ◌≤◌, ◌<◌, length, List, [], ◌∷◌, ◌++◌, take, replicate, Option, Some, None, Bool, true, false, refl, ap, sym, subst, ◌∙◌, arith, append_assoc, length-append, suc, zero}
+use Rattle.std.proofs.Common.{◌≡◌, ℕ, ℤ, ◌+◌, ◌-◌, ◌≤◌, ◌<◌, length, List, [], ◌∷◌, ◌++◌, take, replicate, Option, Some, None, Bool, true, false, refl, ap, sym, subst, ◌∙◌, arith, length-append, suc, zero}
 use Rattle.std.specs.Prelude.{slice_index}
 use Rattle.std.specs.FinMap.{get}
 use Rattle.std.specs.Ordering.{eq_by_cmp}
 use Rattle.graph_model.specs.Keys.{edge_cmp, in_key}
 use Rattle.graph_model.specs.Contents.{Contents, nothing, changed, after_all, contents_after}
 use Rattle.graph_model.specs.Views.{view_of}
-use Rattle.graph_model.specs.Machine.{Machine, taken, contents_at}
+use Rattle.graph_model.specs.Machine.{Machine, contents_at}
 use Rattle.graph_model.specs.Run.{Run as GraphRun}
 use Rattle.graph_model.specs.declared.edge_id.EdgeId.{EdgeId}
 use Rattle.graph_model.specs.declared.in_key.InKey.{InKey}
 use Rattle.graph_model.specs.declared.call_id.CallId.{CallId}
 use Rattle.graph_model.specs.declared.change.Change.{Change}
-use Rattle.graph_model.specs.declared.chain.Chain.{Chain}
 use Rattle.graph_model.specs.declared.call.Call.{Call}
 use Rattle.graph_model.specs.declared.call.CallState.{CallState}
 use Rattle.graph_model.specs.declared.call.CallState.TheVariants.{Open, Begun, Done}

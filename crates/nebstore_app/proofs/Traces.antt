@@ -1,5 +1,5 @@
 -- The trace of the graph steps of events.
-use Rattle.std.proofs.Common.{◌≡◌, ℕ, List, [], ◌∷◌, ◌++◌, Option, Some, None, Bool, true, false, refl, ap, sym, ◌∙◌}
+use Rattle.std.proofs.Common.{◌≡◌, ℕ, List, [], ◌∷◌, ◌++◌, Option, Some, None, Bool, true, false, refl, ap, ◌∙◌}
 use Rattle.std.specs.Prelude.{if◌then◌else◌, slice_get}
 use Rattle.graph_model.specs.Run.{trace}
 use Rattle.graph_model.specs.declared.answer.Answer.{Answer}
@@ -9,8 +9,8 @@ use Rattle.graph_model.specs.declared.edge_id.EdgeId.{EdgeId}
 use Rattle.graph_model.specs.declared.graph_step.GStep.{GStep}
 use Rattle.graph_model.specs.declared.graph_step.GStep.TheVariants.{Invoke as GInvoke, Begin, Skip, Refuse, InHalf, OutHalf, Settle, Cancel, Vertex, Read as GRead, Reply as GReply}
 use Rattle.part_machine.specs.Part.{Part, is_fresh}
-use Rattle.part_machine.specs.declared.part_entry.PartEntry.{PartEntry}
-use Rattle.part_machine.specs.declared.part_entry.PartEntry.TheVariants.{Prime, Local, Remote, Read}
+use Rattle.part_keys.specs.declared.entry.PartEntry.{PartEntry}
+use Rattle.part_keys.specs.declared.entry.PartEntry.TheVariants.{Prime, Local, Double, Close, Abort, Remote, Fence, Vertex as VertexEntry, Read}
 use Rattle.part_machine.specs.declared.applied.Applied.{Applied}
 use Rattle.part_machine.specs.declared.applied.Applied.TheVariants.{Old, Again, Conflict as ConflictThen, Skipped as SkippedThen, Begun, Settled, Done, Shown as ShownThen, Nothing}
 use Rattle.nebstore_app.specs.declared.packet.Packet.{Packet}
@@ -19,7 +19,7 @@ use Rattle.nebstore_app.specs.declared.event.Event.TheVariants.{Invoke, Deliver,
 use Rattle.nebstore_app.specs.Replica.{answer_to}
 use Rattle.nebstore_app.specs.Packets.{entry_in}
 use Rattle.nebstore_app.specs.World.{World, replica_of, after}
-use Rattle.nebstore_app.specs.Steps.{Tally, steps_of_entry, steps_at, steps_of_delivery, steps_of_reply, steps_of_event, steps_from, tallied, trace_of, moment_of}
+use Rattle.nebstore_app.specs.Steps.{Tally, steps_of_entry, steps_at, steps_of_delivery, steps_of_reply, steps_from, tallied, trace_of, moment_of}
 
 pub trace-append : (xs ys : List GStep) → trace (xs ++ ys) ≡ trace xs ++ trace ys
 trace-append [] ys = refl
@@ -60,6 +60,11 @@ prime_silent p (Local e v) (ShownThen other view) = refl
 prime_silent p (Local e v) Nothing = refl
 prime_silent p (Remote i term e v half) a = fresh_silent (is_fresh p e v) e
 prime_silent p (Read id query) a = refl
+prime_silent p (Double e v) a = refl
+prime_silent p (Close e v) a = refl
+prime_silent p (Abort e v) a = refl
+prime_silent p (Fence i term e v) a = refl
+prime_silent p (VertexEntry id change) a = refl
 
 entry_silent : (w : World) (x : Option (ℕ × PartEntry)) → trace (steps_at w x) ≡ []
 entry_silent w None = refl

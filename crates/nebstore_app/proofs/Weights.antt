@@ -1,12 +1,12 @@
 -- How many deliveries a packet may still bring about: each delivery leaves less.
-use Rattle.std.proofs.Common.{◌≡◌, ℕ, ◌+◌, ◌≤◌, ◌<◌, length, List, [], ◌∷◌, ◌++◌, drop, Option, Some, None, Bool, true, false, refl, ap, sym, subst, ◌∙◌, arith}
+use Rattle.std.proofs.Common.{◌≡◌, ℕ, ◌+◌, ◌<◌, length, List, [], ◌∷◌, ◌++◌, Option, Some, None, arith}
 use Rattle.std.specs.Prelude.{option_to_list, slice_get}
 use Rattle.part_machine.specs.declared.clients.Outcome.{Outcome}
 use Rattle.part_machine.specs.declared.clients.Outcome.TheVariants.{Open, Fine, Skipped as SkippedThen, Conflict as ConflictThen}
-use Rattle.part_machine.specs.declared.part_entry.PartEntry.{PartEntry}
-use Rattle.part_machine.specs.declared.part_entry.PartEntry.TheVariants.{Prime, Local, Remote, Read}
+use Rattle.part_keys.specs.declared.entry.PartEntry.{PartEntry}
+use Rattle.part_keys.specs.declared.entry.PartEntry.TheVariants.{Prime, Local, Double, Close, Abort, Remote, Fence, Vertex, Read}
 use Rattle.part_machine.specs.declared.applied.Applied.{Applied}
-use Rattle.part_machine.specs.declared.applied.Applied.TheVariants.{Old, Again, Conflict, Skipped, Begun, Settled, Done, Shown, Nothing}
+use Rattle.part_machine.specs.declared.applied.Applied.TheVariants.{Again, Conflict, Skipped, Begun, Settled, Done, Shown}
 use Rattle.graph_model.specs.declared.call_id.CallId.{CallId}
 use Rattle.graph_model.specs.declared.edge_id.EdgeId.{EdgeId}
 use Rattle.graph_model.specs.declared.half.Half.{Half}
@@ -25,6 +25,7 @@ entry_weight (Prime id e half absent) = 4
 entry_weight (Remote i term e v half) = 3
 entry_weight (Local e v) = 2
 entry_weight (Read id query) = 2
+entry_weight _ = 1
 
 abbrev pub brought_weight : Option (ℕ × PartEntry) → ℕ
 brought_weight None = 1
@@ -61,6 +62,11 @@ sent_lighter j from (Remote i term e v half) Done = back_lighter j from i term e
 sent_lighter j from (Remote i term e v half) _ = omega arith
 sent_lighter j from (Read id query) (Shown asked view) = omega arith
 sent_lighter j from (Read id query) _ = omega arith
+sent_lighter j from (Double e v) a = omega arith
+sent_lighter j from (Close e v) a = omega arith
+sent_lighter j from (Abort e v) a = omega arith
+sent_lighter j from (Fence i term e v) a = omega arith
+sent_lighter j from (Vertex id change) a = omega arith
 
 received_lighter : (w : World) (k : ℕ) (p : Packet) (x : Option (ℕ × PartEntry)) → weight (received w k p x).waiting < brought_weight x + weight w.waiting
 received_lighter w k p None = omega arith

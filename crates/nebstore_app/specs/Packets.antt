@@ -1,12 +1,10 @@
 -- Where a packet leads, and what it brings.
-use Rattle.std.specs.Prelude.{◌≡◌, ℕ, ℤ, ◌+◌, ◌%◌, Option, None, Some, Bool, true, false}
+use Rattle.std.specs.Prelude.{◌≡◌, ℕ, ℤ, Option, None, Some, true, false}
 use Rattle.std.specs.Option.{option_map}
-use Rattle.std.specs.Int.{w64, cast_unsigned}
-use Rattle.graph_model.specs.declared.edge_id.EdgeId.{EdgeId}
+use Rattle.part_keys.specs.Routing.{part_number}
 use Rattle.graph_model.specs.declared.call_id.CallId.{CallId}
 use Rattle.graph_model.specs.declared.half.Half.{Half}
-use Rattle.graph_model.specs.declared.half.Half.TheVariants.{Absent, Here}
-use Rattle.graph_model.specs.declared.query.Query.{Query}
+use Rattle.graph_model.specs.declared.half.Half.TheVariants.{Here}
 use Rattle.graph_model.specs.declared.query.Query.TheVariants.{Tag, Edge, Out, In, Both}
 use Rattle.graph_model.specs.declared.op.Op.{Op}
 use Rattle.graph_model.specs.declared.op.Op.TheVariants.{PutEdge, DelEdge, PutVertex, DelVertex, Read as ReadOp}
@@ -14,19 +12,19 @@ use Rattle.graph_model.specs.declared.answer.Answer.{Answer}
 use Rattle.graph_model.specs.declared.answer.Answer.TheVariants.{Fine, Skipped as SkippedAnswer, Conflict as ConflictAnswer, Shown as ShownAnswer}
 use Rattle.part_machine.specs.declared.clients.Outcome.{Outcome}
 use Rattle.part_machine.specs.declared.clients.Outcome.TheVariants.{Open, Fine as FineThen, Skipped as SkippedThen, Conflict as ConflictThen}
-use Rattle.part_machine.specs.declared.part_entry.PartEntry.{PartEntry}
-use Rattle.part_machine.specs.declared.part_entry.PartEntry.TheVariants.{Prime, Local, Remote as RemoteEntry, Read}
+use Rattle.part_keys.specs.declared.entry.PartEntry.{PartEntry}
+use Rattle.part_keys.specs.declared.entry.PartEntry.TheVariants.{Prime, Local, Double, Close, Abort, Remote as RemoteEntry, Fence, Vertex, Read}
 use Rattle.part_machine.specs.declared.applied.Applied.{Applied}
-use Rattle.part_machine.specs.declared.applied.Applied.TheVariants.{Old, Again, Conflict, Skipped, Begun, Settled, Done as DoneThen, Shown, Nothing}
+use Rattle.part_machine.specs.declared.applied.Applied.TheVariants.{Again, Conflict, Skipped, Begun, Settled, Done as DoneThen, Shown}
 use Rattle.nebstore_app.specs.declared.packet.Place.{Place}
 use Rattle.nebstore_app.specs.declared.packet.Place.TheVariants.{Client, Part}
 use Rattle.nebstore_app.specs.declared.packet.Body.{Body}
 use Rattle.nebstore_app.specs.declared.packet.Body.TheVariants.{Request, Answer as AnswerBody, Remote, Done}
 use Rattle.nebstore_app.specs.declared.packet.Packet.{Packet}
 
--- the part of a vertex: its id as an unsigned number of 64 bits, modulo the two parts, plus 1
+-- the part of a vertex, of the two parts
 abbrev pub part_of : ℤ → ℕ
-part_of vid = cast_unsigned w64 vid % 2 + 1
+part_of vid = part_number vid 2
 
 -- the client of this stage
 abbrev pub the_client : ℕ
@@ -87,7 +85,8 @@ kept_answer SkippedThen = Some SkippedAnswer
 kept_answer (ConflictThen id) = Some (ConflictAnswer id)
 
 -- what part j sends once it has applied an entry that came from there, by the entry and its answer: the chain that
--- began goes on to the edge's destination, a written in-half is told back, and a call that is over is answered
+-- began goes on to the edge's destination, a written in-half is told back, and a call that is over is answered.
+-- Nothing follows from the entries that no replica makes yet
 abbrev pub sent : ℕ → Place → PartEntry → Applied → Option Packet
 sent j from (Prime id e half absent) (Begun v) =
     Some (record { from = Part j; to = Part (part_of e.dst); body = Remote the_term e v half })
@@ -101,10 +100,13 @@ sent j from (RemoteEntry i term e v half) DoneThen = Some (record { from = Part 
 sent j from (RemoteEntry i term e v half) _ = None
 sent j from (Read id query) (Shown asked view) = Some (answer_packet j id (ShownAnswer view))
 sent j from (Read id query) _ = None
+sent j from (Double e v) answer = None
+sent j from (Close e v) answer = None
+sent j from (Abort e v) answer = None
+sent j from (Fence i term e v) answer = None
+sent j from (Vertex id change) answer = None
 
 -- the half that a Prime names; of another entry, any
 abbrev pub IsSpareOf : PartEntry → Half → Type 0
 IsSpareOf (Prime id e half absent) spare = spare ≡ half
-IsSpareOf (Local e v) spare = Unit {0}
-IsSpareOf (RemoteEntry i term e v half) spare = Unit {0}
-IsSpareOf (Read id query) spare = Unit {0}
+IsSpareOf _ spare = Unit {0}

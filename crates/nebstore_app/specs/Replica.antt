@@ -1,7 +1,7 @@
 -- The one replica of a part.
 use Rattle.std.specs.Prelude.{ℕ, ◌+◌, List, [], ◌∷◌, ◌++◌, length, refl}
 use Rattle.std.specs.Coded.{Coded, code_by, coded×}
-use Rattle.part_machine.specs.declared.part_entry.PartEntry.{PartEntry}
+use Rattle.part_keys.specs.declared.entry.PartEntry.{PartEntry}
 use Rattle.part_machine.specs.declared.applied.Applied.{Applied}
 use Rattle.part_machine.specs.Part.{Part, start, applied}
 

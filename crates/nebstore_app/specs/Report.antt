@@ -1,5 +1,5 @@
 -- What the run of a script comes to.
-use Rattle.std.specs.Prelude.{◌≡◌, ◌≢◌, ◌<◌, ◌≤◌, ◌⊎◌, ℕ, List, [], ◌∷◌, ◌++◌, length, Option, Bool, true, false, codes, bytes_eq}
+use Rattle.std.specs.Prelude.{◌≡◌, ◌<◌, ◌≤◌, ◌⊎◌, ℕ, List, [], ◌∷◌, ◌++◌, length, Option, Bool, true, false, codes, bytes_eq}
 use Rattle.graph_model.specs.declared.answer.Answer.{Answer}
 use Rattle.graph_model.specs.declared.graph_step.GStep.{GStep}
 use Rattle.graph_model.specs.Machine.{Machine, start as nothing_yet}

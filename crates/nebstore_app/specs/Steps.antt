@@ -7,16 +7,16 @@ use Rattle.graph_model.specs.declared.graph_step.GStep.{GStep}
 use Rattle.graph_model.specs.declared.graph_step.GStep.TheVariants as step
 use Rattle.graph_model.specs.Machine.{Machine, start as nothing_yet}
 use Rattle.graph_model.specs.Run.{Run as GraphRun, trace}
-use Rattle.part_machine.specs.declared.part_entry.PartEntry.{PartEntry}
-use Rattle.part_machine.specs.declared.part_entry.PartEntry.TheVariants.{Prime, Local, Remote, Read}
+use Rattle.part_keys.specs.declared.entry.PartEntry.{PartEntry}
+use Rattle.part_keys.specs.declared.entry.PartEntry.TheVariants.{Prime, Local, Double, Close, Abort, Remote, Fence, Vertex, Read}
 use Rattle.part_machine.specs.declared.applied.Applied.{Applied}
-use Rattle.part_machine.specs.declared.applied.Applied.TheVariants.{Conflict, Skipped, Begun, Settled, Done}
+use Rattle.part_machine.specs.declared.applied.Applied.TheVariants.{Conflict, Skipped, Begun, Settled}
 use Rattle.part_machine.specs.Part.{Part, is_fresh}
 use Rattle.nebstore_app.specs.declared.due.Due.{Due}
 use Rattle.nebstore_app.specs.declared.event.Event.{Event}
 use Rattle.nebstore_app.specs.declared.event.Event.TheVariants.{Invoke, Deliver, Reply}
 use Rattle.nebstore_app.specs.declared.packet.Packet.{Packet}
-use Rattle.nebstore_app.specs.Replica.{Replica, answer_to}
+use Rattle.nebstore_app.specs.Replica.{answer_to}
 use Rattle.nebstore_app.specs.Packets.{entry_in}
 use Rattle.nebstore_app.specs.World.{World, start, replica_of, after}
 
@@ -31,6 +31,11 @@ steps_of_entry p (Remote i term e v half) answer = if is_fresh p e v then step.I
 steps_of_entry p (Local e v) (Settled id) = step.OutHalf e ∷ step.Settle e ∷ []
 steps_of_entry p (Local e v) _ = []
 steps_of_entry p (Read id query) answer = []
+steps_of_entry p (Double e v) answer = []
+steps_of_entry p (Close e v) answer = []
+steps_of_entry p (Abort e v) answer = []
+steps_of_entry p (Fence i term e v) answer = []
+steps_of_entry p (Vertex id change) answer = []
 
 abbrev pub steps_at : World → Option (ℕ × PartEntry) → List GStep
 steps_at w None = []

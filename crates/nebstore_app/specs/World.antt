@@ -2,17 +2,15 @@
 use Rattle.std.specs.Prelude.{◌≡◌, ℕ, ◌+◌, ◌<◌, ◌==◌, List, [], ◌∷◌, ◌++◌, length, drop, slice_get, Option, None, Some, IsSome, Bool, true, false, not, ◌&&◌, is_some, option_to_list, if◌then◌else◌}
 use Rattle.std.specs.Option.{option_map}
 use Rattle.graph_model.specs.declared.call_id.CallId.{CallId}
-use Rattle.graph_model.specs.declared.op.Op.{Op}
 use Rattle.graph_model.specs.declared.answer.Answer.{Answer}
-use Rattle.part_machine.specs.Part.{Part}
-use Rattle.part_machine.specs.declared.part_entry.PartEntry.{PartEntry}
+use Rattle.part_keys.specs.declared.entry.PartEntry.{PartEntry}
 use Rattle.nebstore_app.specs.declared.packet.Packet.{Packet}
 use Rattle.nebstore_app.specs.declared.packet.Place.{Place}
 use Rattle.nebstore_app.specs.declared.due.Due.{Due}
 use Rattle.nebstore_app.specs.declared.event.Event.{Event}
 use Rattle.nebstore_app.specs.declared.event.Event.TheVariants.{Invoke, Deliver, Reply}
 use Rattle.nebstore_app.specs.Replica.{Replica, fresh, answer_to, replica_after}
-use Rattle.nebstore_app.specs.Packets.{part_of, the_client, request_of, entry_in, answer_in, sent}
+use Rattle.nebstore_app.specs.Packets.{the_client, request_of, entry_in, answer_in, sent}
 
 -- the two parts; the packets that came and those under way, in the order in which they were sent; the number of the
 -- client's last call, whether it is open, and the answer that it is due; and all that happened

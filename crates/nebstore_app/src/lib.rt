@@ -21,7 +21,6 @@ mod journal;
 pub mod laws;
 mod mail;
 mod packet;
-mod part_number;
 mod replica;
 mod run;
 mod script;

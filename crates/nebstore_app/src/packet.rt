@@ -2,11 +2,13 @@
 ghost use Rattle.std.specs.Prelude.{◌≡◌, IfOk};
 ghost use Rattle.nebstore_app.specs.Packets.{request_of, request};
 
-use crate::part_number::part_of;
 use graph_model::{Answer, CallId, EdgeId, Half, Op, Query, Vid};
 use lists::{Listed, NoMemory};
-use part_machine::PartEntry;
+use part_keys::{PartEntry, part_of};
 use std::alloc::Global;
+
+/// How many parts there are.
+pub(crate) const PARTS: u32 = 2;
 
 /// An end of a packet.
 #[derive(Clone, Copy)]
@@ -104,7 +106,7 @@ fn request(id: CallId, vid: &Vid, entry: PartEntry) -> Packet
 {
     Packet {
         from: Place::Client(id.client),
-        to: Place::Part(part_of(*vid)),
+        to: Place::Part(part_of(*vid, PARTS)),
         body: Body::Request(id.number, entry),
     }
 }

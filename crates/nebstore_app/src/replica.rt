@@ -2,11 +2,11 @@
 ghost use Rattle.std.specs.Prelude.{◌≡◌, IfOk};
 ghost use Rattle.nebstore_app.specs.Packets.{sent, answer_packet, kept_answer, IsSpareOf};
 
-use crate::packet::{Body, Packet, Place};
-use crate::part_number::part_of;
+use crate::packet::{Body, PARTS, Packet, Place};
 use graph_model::{Answer, CallId, Half};
 use lists::NoMemory;
-use part_machine::{Applied, Machine, Outcome, PartEntry};
+use part_keys::{PartEntry, part_of};
+use part_machine::{Applied, Machine, Outcome};
 use std::alloc::Global;
 use std::marker::Model;
 
@@ -24,7 +24,7 @@ impl Model for Replica {
     ghost use Rattle.std.specs.Coded.{coded_list};
     ghost use Rattle.nebstore_app.specs.Replica.{Replica, replica_code};
     ghost use Rattle.part_machine.specs.contracts.machine.Machine as machines;
-    ghost use Rattle.part_machine.specs.contracts.part_entry.PartEntry as entry;
+    ghost use Rattle.part_keys.specs.contracts.entry.PartEntry as entry;
 
     ghost Value = { Replica };
 
@@ -97,7 +97,7 @@ fn packet_after(
     match (entry, answer) {
         (PartEntry::Prime(_id, edge, _half, _absent), Applied::Begun(v)) => Some(Packet {
             from: Place::Part(part),
-            to: Place::Part(part_of(edge.dst)),
+            to: Place::Part(part_of(edge.dst, PARTS)),
             body: Body::Remote(TERM, *edge, v, spare),
         }),
         (PartEntry::Prime(id, ..), Applied::Skipped) => Some(answer_packet(

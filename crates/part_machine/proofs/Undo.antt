@@ -1,7 +1,6 @@
 -- A value that was put at a free key and taken away again.
-use Rattle.std.proofs.Common.{◌≡◌, ◌⊎◌, inl, inr, Option, Some, None, cond, Bool, true, false, refl, ap, sym, ◌∙◌, subst}
-use Rattle.std.specs.FinMap.{FinMap, get, insert, remove, get-insert, get-remove, same_map}
-use Rattle.std.specs.Ordering.{eq_by_cmp}
+use Rattle.std.proofs.Common.{◌≡◌, inl, inr, Some, None, ap, sym, ◌∙◌}
+use Rattle.std.specs.FinMap.{FinMap, get, insert, remove, same_map}
 use Rattle.std.specs.Cmp.{IsTotalOrder}
 use Rattle.std.specs.declared.cmp.Ordering.{Ordering}
 use Rattle.std.proofs.lemmas.Map.Lookups.{CmpEqualImpliesEq}

@@ -1,5 +1,5 @@
 -- At an edge of another vertex nothing is found.
-use Rattle.std.proofs.Common.{◌≡◌, ℤ, List, None, Some, Bool, true, false, ap}
+use Rattle.std.proofs.Common.{◌≡◌, ℤ, List, None, Some, true, false, ap}
 use Rattle.std.specs.Prelude.{◌&&◌, if◌then◌else◌}
 use Rattle.std.specs.List.{list_any}
 use Rattle.std.specs.Option.{option_map}

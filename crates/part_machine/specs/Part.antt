@@ -1,5 +1,5 @@
 -- The state of a part, and what each entry makes of it.
-use Rattle.std.specs.Prelude.{◌≡◌, ℕ, ℤ, ◌==◌, nat_lt, List, [], ◌∷◌, ◌++◌, Option, None, Some, Bool, true, false, not, ◌&&◌, if◌then◌else◌}
+use Rattle.std.specs.Prelude.{ℕ, ℤ, ◌==◌, nat_lt, List, [], ◌++◌, Option, None, Some, Bool, true, false, not, ◌&&◌, if◌then◌else◌}
 use Rattle.std.specs.Ordering.{nat_cmp}
 use Rattle.std.specs.Option.{option_map}
 use Rattle.std.specs.List.{filter_map}
@@ -23,9 +23,9 @@ use Rattle.part_machine.specs.declared.in_halves.InHalf.{InHalf}
 use Rattle.part_machine.specs.declared.prime.PrimeRec.{PrimeRec}
 use Rattle.part_machine.specs.declared.applied.Applied.{Applied}
 use Rattle.part_machine.specs.declared.applied.Applied.TheVariants.{Old, Again, Conflict, Skipped, Begun, Settled, Done, Shown, Nothing}
-use Rattle.part_machine.specs.declared.part_entry.PartEntry.{PartEntry}
-use Rattle.part_machine.specs.declared.part_entry.PartEntry.TheVariants.{Prime, Local, Remote, Read}
-use Rattle.part_machine.specs.InHalf.{number_of, row_in}
+use Rattle.part_keys.specs.declared.entry.PartEntry.{PartEntry}
+use Rattle.part_keys.specs.declared.entry.PartEntry.TheVariants.{Prime, Local, Double, Close, Abort, Remote, Fence, Vertex, Read}
+use Rattle.part_machine.specs.InHalf.{number_of}
 use Rattle.part_machine.specs.Kept.{settled}
 
 -- the out-halves that are here, the in-halves with their chains' numbers, the chains under way, and of each
@@ -115,10 +115,15 @@ written p e v half =
 abbrev pub is_fresh : Part → EdgeId → ℕ → Bool
 is_fresh p e v = nat_lt (number_of (get p.inn (in_key e))) v
 
--- what an entry at this index leaves, and its answer
+-- what an entry at this index leaves, and its answer. No replica makes the last five yet, and they change nothing
 abbrev pub applied : Part → ℕ → PartEntry → Part × Applied
 applied p index (Prime id e half absent) =
     where_new p id (get p.kept id.client) (primed p index id e half absent (get p.primes e))
 applied p index (Local e v) = localized p e v (get p.primes e)
 applied p index (Remote from term e v half) = (if is_fresh p e v then written p e v half else p, Done)
 applied p index (Read id query) = (p, Shown id (seen query p))
+applied p index (Double e v) = (p, Nothing)
+applied p index (Close e v) = (p, Nothing)
+applied p index (Abort e v) = (p, Nothing)
+applied p index (Fence source term e v) = (p, Nothing)
+applied p index (Vertex id change) = (p, Nothing)

@@ -3,10 +3,10 @@ use crate::applied::Applied;
 use crate::clients::{Clients, Kept, Outcome};
 use crate::edge_map::EdgeMap;
 use crate::in_halves::{InHalf, InHalves};
-use crate::part_entry::PartEntry;
 use crate::prime::PrimeRec;
 use graph_model::{CallId, EdgeId, Half, Query, Row, View};
 use lists::NoMemory;
+use part_keys::PartEntry;
 use std::alloc::Global;
 use std::marker::Model;
 
@@ -54,8 +54,8 @@ impl Machine {
         }
     }
 
-    /// Applies the entry at this index of the part's log. Refused for want of memory alone, and then the part is as
-    /// it was.
+    /// Applies the entry at this index of the part's log. A Double, a Close, an Abort, a Fence and a Vertex, which no
+    /// replica of this stage makes, change nothing. Refused for want of memory alone, and then the part is as it was.
     pub fn apply(
         &mut self,
         alloc: Global,
@@ -72,6 +72,7 @@ impl Machine {
             PartEntry::Local(edge, v) => self.local(alloc, *edge, *v),
             PartEntry::Remote(_from, _term, edge, v, half) => self.remote(alloc, *edge, *v, half),
             PartEntry::Read(id, query) => Ok(Applied::Shown(*id, self.view(alloc, query)?)),
+            _ => Ok(Applied::Nothing),
         }
     }
 

@@ -1,7 +1,6 @@
 use Rattle.std.proofs.Common.{sym, subst}
 use Rattle.nebstore_app.specs.World.{Run, start}
 use Rattle.nebstore_app.specs.Steps.{IsGraphRun, at_start}
-use Rattle.nebstore_app.specs.Report.{IsLawful}
 use Rattle.nebstore_app.proofs.Refines.{refines}
 use Rattle.nebstore_app.proofs.Traces.{same_trace}
 use Rattle.nebstore_app.proofs.run.run_script.Goals as goal

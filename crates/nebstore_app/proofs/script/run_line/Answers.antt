@@ -1,4 +1,4 @@
-use Rattle.std.proofs.Common.{◌≡◌, ◌++◌, List, ap, ◌∙◌, subst}
+use Rattle.std.proofs.Common.{◌≡◌, ◌++◌, ap, ◌∙◌, subst}
 use Rattle.first_script.specs.Print.{print_line}
 use Rattle.outside_io.specs.Bytes.{AppendsFront}
 use Rattle.nebstore_app.proofs.Results.{on_err}

@@ -1,7 +1,7 @@
 use Rattle.std.proofs.Common.{refl, ◌+◌, ◌∙◌, sym, subst}
 use Rattle.nebstore_app.specs.Answering.{AnswersLine, StopsLine}
 use Rattle.nebstore_app.proofs.Results.{on_err}
-use Rattle.nebstore_app.proofs.Running.{Running, run_start, run_more, run_end, run_left}
+use Rattle.nebstore_app.proofs.Running.{Running, run_start, run_more, run_left}
 use Rattle.nebstore_app.proofs.script.run_lines.Goals as goal
 
 pub loop-line-init : goal.loop-line-init

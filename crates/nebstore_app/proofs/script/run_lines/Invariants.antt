@@ -1,4 +1,4 @@
-use Rattle.std.proofs.Common.{◌≡◌, ℕ, length}
+use Rattle.std.proofs.Common.{◌≡◌, length}
 use Rattle.nebstore_app.proofs.Running.{Running}
 use Rattle.nebstore_app.proofs.script.run_lines.Given as goal
 

@@ -1,7 +1,7 @@
-use Rattle.std.proofs.Common.{◌≡◌, ◌<◌, length, List, [], Some, sym, subst}
-use Rattle.nebstore_app.specs.World.{World, next_call, answer_due}
+use Rattle.std.proofs.Common.{◌≡◌, ◌<◌, length, [], sym, subst}
+use Rattle.nebstore_app.specs.World.{World, next_call}
 use Rattle.nebstore_app.specs.Calls.{HasCalled, HasStopped}
-use Rattle.nebstore_app.proofs.Calling.{IsMade, made, still_made, has_called, stopped_made, stopped_quiet, nobody_left}
+use Rattle.nebstore_app.proofs.Calling.{IsMade, made, still_made, has_called, stopped_made, nobody_left}
 use Rattle.nebstore_app.proofs.Results.{if_ok, at_ok, on_err, at_err}
 use Rattle.nebstore_app.proofs.Weights.{weight, lighter}
 use Rattle.nebstore_app.proofs.Refines.{due_when_quiet}

@@ -1,9 +1,6 @@
-use Rattle.std.proofs.Common.{sym, ap, ◌∙◌, refl}
-use Rattle.std.specs.FinMap.{get}
-use Rattle.graph_model.specs.Keys.{in_key}
+use Rattle.std.proofs.Common.{refl}
 use Rattle.graph_model.proofs.MapLemmas.{get_made}
 use Rattle.graph_model.proofs.KeyLemmas.{ins_total}
-use Rattle.part_machine.specs.InHalf.{number_of}
 use Rattle.part_machine.proofs.in_halves.InHalves.number.Goals as goal
 
 pub returns-in-Some : goal.returns-in-Some

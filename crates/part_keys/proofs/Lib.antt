@@ -1,0 +1,10 @@
+pub mod OtherKinds
+pub mod Texts
+pub mod Rising
+pub mod Laws
+pub mod Within
+pub mod Answered
+pub mod KeyLaws
+pub mod KeyOrders
+pub mod Order
+pub mod Parts

@@ -1,0 +1,16 @@
+//! Which part a vertex belongs to.
+ghost use Rattle.std.specs.Prelude.{◌≡◌, ◌≤◌, ◌<◌};
+ghost use Rattle.part_keys.specs.Fits.{IsSmall};
+ghost use Rattle.part_keys.specs.Routing.{part_number};
+
+use graph_model::Vid;
+
+/// The part of a vertex: its id as an unsigned number of 64 bits, modulo the number of parts, plus 1.
+pub fn part_of(v: Vid, parts: u32) -> u32
+    requires some { 0 < parts }
+    requires few { parts ≤ 64 }
+    ensures number { result ≡ part_number v parts }
+    ensures within { IsSmall result }
+{
+    (v.cast_unsigned() % parts as u64) as u32 + 1
+}
