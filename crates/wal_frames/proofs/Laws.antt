@@ -16,6 +16,7 @@ use Rattle.raft_log.specs.declared.entry.Item.TheVariants.{NoOp, Members, Payloa
 use Rattle.raft_log.specs.declared.record.Record.{Record}
 use Rattle.wal_frames.specs.Spelling.{config, item, entry, entries, body, FitsConfig, FitsItem, FitsEntry, FitEntries, FitsRecord}
 use Rattle.wal_frames.specs.Reading.{peer_at, peers_at, config_at, item_of, entry_at, entries_at, body_at}
+use Rattle.wal_frames.proofs.OtherKinds.{no_item}
 use Rattle.wal_frames.proofs.Peers.{IsAbove, peer_above}
 
 -- ---- peers
@@ -112,7 +113,7 @@ config_again c rest fits =
 -- ---- items
 
 item_takes : (bytes : List ℕ) (i : Item) → IsBytes bytes → item_of bytes ≡ Ok i → (bytes ≡ item i) × FitsItem i
-unfolding item_of
+unfolding item_of byte_at
 item_takes [] i fits e = absurd cc
 item_takes (zero ∷ rest) i fits e =
     let g = test_ok (eqb (length rest) 0) (misfit rest) NoOp i e in
@@ -124,10 +125,10 @@ item_takes (suc zero ∷ rest) i fits e =
     subst (λ (x : Item). (1 ∷ rest ≡ item x) × FitsItem x) (ok_is (Members a.0) i a.2) (ap (λ (r : List ℕ). 1 ∷ r) t.0, t.1)
 item_takes (suc (suc zero) ∷ rest) i fits e =
     subst (λ (x : Item). (2 ∷ rest ≡ item x) × FitsItem x) (ok_is (Payload rest) i e) (refl, tt)
-item_takes (suc (suc (suc kind)) ∷ rest) i fits e = absurd cc
+item_takes (suc (suc (suc kind)) ∷ rest) i fits e = let no = sym (no_item (suc (suc (suc kind))) rest (omega arith)) ∙ e in absurd cc
 
 item_again : (i : Item) → FitsItem i → item_of (item i) ≡ Ok i
-unfolding item_of
+unfolding item_of byte_at
 item_again NoOp fits = refl
 item_again (Members c) fits = rw (whole_again config_at config FitsConfig config_again c fits) refl
 item_again (Payload bytes) fits = refl

@@ -1,3 +1,4 @@
+mod OtherKinds
 pub mod Peers
 pub mod Within
 pub mod Laws

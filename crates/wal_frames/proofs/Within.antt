@@ -6,6 +6,7 @@ use Rattle.byte_fields.specs.Reading.{◌>>=◌, misfit, byte_at, number_at, id_
 use Rattle.byte_fields.proofs.Within.{IsWithin, FaultIsWithin, within_less, within_then, byte_within, number_within, id_within, rising_within, many_within, whole_within, inside_within}
 use Rattle.raft_log.specs.declared.config.Config.{Config}
 use Rattle.raft_log.specs.declared.entry.Item.TheVariants.{NoOp, Members}
+use Rattle.wal_frames.proofs.OtherKinds.{no_item}
 use Rattle.wal_frames.specs.Reading.{peer_at, peers_at, config_at, item_of, entry_at, entries_at, body_at}
 
 -- a test that refuses
@@ -42,12 +43,12 @@ members_within n k (Ok c) le h = tt
 members_within n k (Err m) le h = omega (arith, h)
 
 pub item_within : (bytes : List ℕ) → FaultIsWithin (length bytes) (item_of bytes)
-unfolding item_of
+unfolding item_of byte_at
 item_within [] = omega arith
 item_within (zero ∷ rest) = ended_within (eqb (length rest) 0) rest (length (0 ∷ rest)) NoOp (omega arith)
 item_within (suc zero ∷ rest) = members_within (length (1 ∷ rest)) (length rest) (whole config_at rest) (omega arith) (whole_within config_at config_within rest)
 item_within (suc (suc zero) ∷ rest) = tt
-item_within (suc (suc (suc kind)) ∷ rest) = omega arith
+item_within (suc (suc (suc kind)) ∷ rest) = rw (no_item (suc (suc (suc kind))) rest (omega arith)) (omega arith)
 
 pub entry_within : (bytes : List ℕ) → IsWithin (length bytes) (entry_at bytes)
 unfolding entry_at

@@ -4,7 +4,7 @@
 -- the item, where the body ends before the length that is given for it;
 -- a field inside the item, where it doesn't fit within that length; the first byte that is left over within it;
 -- the first byte that is left over behind the last entry.
-use Rattle.std.specs.Prelude.{◌≡◌, ℕ, zero, suc, ◌+◌, ◌-◌, List, [], ◌∷◌, length, Result, Ok, Err, nat_lt, ◌==◌, if◌then◌else◌}
+use Rattle.std.specs.Prelude.{◌≡◌, ℕ, ◌+◌, ◌-◌, List, [], length, Result, Ok, Err, nat_lt, ◌==◌, if◌then◌else◌}
 use Rattle.std.specs.List.{list_any}
 use Rattle.byte_fields.specs.declared.misfit.Misfit.{Misfit}
 use Rattle.byte_fields.specs.Reading.{◌>>=◌, misfit, byte_at, number_at, id_at, rising_at, many_at, whole, inside}
@@ -32,11 +32,11 @@ config_at bytes = do
 
 -- all of the bytes of an item
 unfoldable pub item_of : List ℕ → Result Item Misfit
-item_of [] = Err (misfit [])
-item_of (zero ∷ rest) = if length rest == 0 then Ok NoOp else Err (misfit rest)
-item_of (suc zero ∷ rest) = whole config_at rest >>= λ c. Ok (Members c)
-item_of (suc (suc zero) ∷ rest) = Ok (Payload rest)
-item_of (suc (suc (suc kind)) ∷ rest) = Err (misfit (suc (suc (suc kind)) ∷ rest))
+item_of bytes = byte_at bytes >>= λ kind.
+    if kind.0 == 0 then (if length kind.1 == 0 then Ok NoOp else Err (misfit kind.1))
+    else if kind.0 == 1 then (whole config_at kind.1 >>= λ c. Ok (Members c))
+    else if kind.0 == 2 then Ok (Payload kind.1)
+    else Err (misfit bytes)
 
 unfoldable pub entry_at : List ℕ → Result (Entry × List ℕ) Misfit
 entry_at bytes = do

@@ -62,7 +62,7 @@ fn read_config(bytes: &[u8]) -> Result<(Config, &[u8]), Misfit>
     Ok((Config { voters, learners }, rest))
 }
 
-#[tactic(auto, unfolding(crate::specs::Reading::item_of, byte_fields::specs::Reading::whole))]
+#[tactic(auto, unfolding(crate::specs::Reading::item_of, byte_fields::specs::Reading::byte_at, byte_fields::specs::Reading::whole))]
 fn read_item(alloc: Global, bytes: &[u8]) -> Result<Item, ReadRefused>
     ensures { Gives (λ item. item) result (item_of bytes.now) }
 {
