@@ -1,0 +1,4 @@
+mod Histories
+pub mod Moments
+mod Names
+mod TornPicks

@@ -1,0 +1,10 @@
+pub mod Disk
+pub mod Host
+pub mod HostRack
+pub mod Kept
+pub mod Memory
+pub mod Plan
+pub mod Rack
+pub mod Replay
+pub mod ReplayLaws
+pub mod Tears
