@@ -1,0 +1,5 @@
+mod Append
+mod Crash
+mod Fronts
+mod Readings
+mod Tears
