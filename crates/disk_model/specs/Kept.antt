@@ -1,7 +1,10 @@
 -- What a rack in memory keeps.
 use Rattle.std.specs.Prelude.{◌≡◌, ℕ, Bool, List, [], ◌∷◌, Option, Some, None, ◌==◌, ◌&&◌, if◌then◌else◌, slice_index_or}
 use Rattle.disk_model.specs.declared.rack.DiskName.{DiskName}
+use Rattle.disk_model.specs.Plan.{called}
 use Rattle.disk_model.specs.declared.plan.Plan.{Plan}
+use Rattle.disk_model.specs.declared.rack.RackRefused.{RackRefused}
+use Rattle.disk_model.specs.declared.rack.RackRefused.TheVariants as why
 use Rattle.disk_model.specs.declared.pick.Pick.{Pick}
 use Rattle.disk_model.specs.declared.pick.Pick.TheVariants.{Synced}
 use Rattle.disk_model.specs.declared.mem_rack.Planned.{Planned}
@@ -41,3 +44,8 @@ pub record SamePlans (old new : MemRack) : Type 0 where
   pub reopened : new.reopened ≡ old.reopened
   pub planned : new.planned.items ≡ old.planned.items
   pub plan : new.plan ≡ old.plan
+
+-- a call of the rack that was refused is counted by its plan at a fault alone; for want of memory all is as it was
+abbrev pub HasCounted : Plan → Plan → RackRefused → Type 0
+HasCounted old new why.Fault = new ≡ called old
+HasCounted old new why.NoMemory = new ≡ old

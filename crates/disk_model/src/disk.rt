@@ -31,7 +31,8 @@ pub trait Disk {
     /// For how many bytes of writes there is room.
     ghost room_bytes: { Self → ℕ };
 
-    /// Makes room for so many writes, cuts and syncs, and for so many written bytes in all. No room is lost.
+    /// Makes room for so many writes, cuts and syncs, and for so many written bytes in all. No room is lost. Refused for
+    /// want of memory alone; the file stays, whatever is answered.
     fn reserve(&mut self, alloc: Global, calls: usize, bytes: usize) -> Result<(), NoMemory>
         ensures ok { OnOk result ((calls ≤ room_calls self.new) × (bytes ≤ room_bytes self.new)) }
         ensures room { (room_calls self.old ≤ room_calls self.new) × (room_bytes self.old ≤ room_bytes self.new) }
@@ -40,7 +41,7 @@ pub trait Disk {
         ensures time { Elapses (clock self.old) (clock self.new) (left_since self.old) (left_since self.new) (may_leave self.new) }
         ensures faults { faults self.new ≡ faults self.old };
 
-    /// The length of the file.
+    /// The length of the file. Where it fails a fault is counted; the file stays, whatever is answered.
     fn len(&mut self) -> Result<u64, Failed>
         ensures ok { IfOk result (λ n. IfSome (reads self.old) (λ file. n ≡ length file)) }
         ensures room { (room_calls self.old ≤ room_calls self.new) × (room_bytes self.old ≤ room_bytes self.new) }
@@ -49,7 +50,8 @@ pub trait Disk {
         ensures time { Elapses (clock self.old) (clock self.new) (left_since self.old) (left_since self.new) (may_leave self.new) }
         ensures cause { Counts (faults self.old) (faults self.new) result };
 
-    /// Reads from this place into the front of `into`, up to the end of the file, and answers how many bytes.
+    /// Reads from this place into the front of `into`, up to the end of the file, and answers how many bytes. Where it
+    /// fails a fault is counted; the file stays, whatever is answered.
     fn read_at(&mut self, at: u64, into: &mut [u8]) -> Result<usize, Failed>
         ensures within { IfOk result (λ n. n ≤ length into.new) }
         ensures ok { IfOk result (λ n. IfSome (reads self.old)

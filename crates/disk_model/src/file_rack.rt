@@ -1,7 +1,6 @@
 //! A rack of real files.
 ghost use Rattle.std.specs.Prelude.{◌≡◌, ◌≤◌, ◌+◌, None};
 
-use crate::back::Back;
 use crate::file_disk::FileDisk;
 use crate::rack::{DiskName, Rack, RackRefused, ReopenRefused};
 use outside_io::Faults;
@@ -16,7 +15,7 @@ pub struct FileRack<R> {
     files: R,
     folder: String,
     faults: Faults,
-    back: Back,
+    back: Faults,
     rooms: u64,
 }
 
@@ -30,7 +29,7 @@ impl<R: Files> FileRack<R> {
             files,
             folder,
             faults: Faults::new(),
-            back: Back::new(),
+            back: Faults::new(),
             rooms: 0,
         }
     }

@@ -19,7 +19,6 @@
 //! Below it are `lists` and `outside_io`; above it is the file of records, `wal_disk`.
 #![tactic(auto)]
 
-mod back;
 mod call;
 mod disk;
 mod file_disk;

@@ -1,7 +1,6 @@
 //! A rack of disks in memory.
 ghost use Rattle.std.specs.Prelude.{true, false, None, is_some, IsErrOf, ◌≡◌, ◌<◌, ◌≤◌, ◌+◌, ◌-◌, ◌≢◌, ℕ, List, vec_len, vec_capacity, IfOk, IfErr, OnOk, OnErr, Some};
 
-use crate::back::Back;
 use crate::disk::Disk;
 use crate::mem_disk::MemDisk;
 use crate::pick::Pick;
@@ -32,7 +31,8 @@ pub struct Planned {
 
 /// Disks in memory. A list of picks chooses what each crash leaves, one a `reopen` that opens its disk again; where it
 /// is at its end, what was synced. The first `fresh` of a name gives its disk the plan that was set for the name, and
-/// takes the plan out. Its own calls `fresh` and `reopen` fail as planned.
+/// takes the plan out. Its own calls `fresh` and `reopen` fail as planned; one that is refused for want of memory
+/// doesn't count as a call.
 #[derive(Drop)]
 pub struct MemRack {
     picks: Listed<Pick>,
@@ -40,7 +40,7 @@ pub struct MemRack {
     planned: Vec<Planned>,
     plan: Plan,
     faults: Faults,
-    back: Back,
+    back: Faults,
     kept: Vec<Kept>,
     rooms: usize,
     ghost room: { vec_len kept + rooms ≤ vec_capacity kept },
@@ -67,18 +67,21 @@ impl MemRack {
             planned: Vec::new(alloc),
             plan: Plan::new(None, failing),
             faults: Faults::new(),
-            back: Back::new(),
+            back: Faults::new(),
             kept: Vec::new(alloc),
             rooms: 0,
         }
     }
 
-    /// Sets what the first disk of this name does. Refused for want of memory alone.
+    /// Sets what the first disk of this name does. Refused for want of memory alone, and then all is as it was.
     pub fn set(&mut self, name: DiskName, plan: Plan) -> Result<(), NoMemory>
         ensures ok { OnOk result (self.new ≡ record self.old { planned = self.new.planned }) }
         ensures planned { OnOk result
             (self.new.planned.items ≡ self.old.planned.items ++ record { name = name; plan = plan } ∷ []) }
+        ensures err { OnErr result (SamePlans self.old self.new) }
         ensures kept { self.new.kept.items ≡ self.old.kept.items }
+        ensures rooms { self.new.rooms ≡ self.old.rooms }
+        ensures back { self.new.back.count ≡ self.old.back.count }
         ensures faults { self.new.faults.count ≡ self.old.faults.count }
     {
         self.planned.push(Planned { name, plan })?;
@@ -115,7 +118,7 @@ impl MemRack {
 
 impl Rack for MemRack {
     ghost use Rattle.std.specs.Prelude.{[], ◌∷◌, ◌++◌, ◌↔◌, ◌^◌, min};
-    ghost use Rattle.disk_model.specs.Kept.{kept_at, pick_of, plan_for, without_plan, SamePlans};
+    ghost use Rattle.disk_model.specs.Kept.{kept_at, pick_of, plan_for, without_plan, SamePlans, HasCounted};
     ghost use Rattle.disk_model.specs.Plan.{passes, called};
     ghost use Rattle.disk_model.specs.Rack.{KeepsAt, IsNew, IsCrashed, HasRackCause};
     ghost use Rattle.disk_model.specs.declared.rack.RackRefused.TheVariants.{Fault};
@@ -144,13 +147,15 @@ impl Rack for MemRack {
         // Beside what each rack promises.
         ensures passed { OnOk result (passes self.old.plan ≡ true) }
         ensures failed { IsErrOf result Fault ↔ (passes self.old.plan ≡ false) }
-        ensures called { self.new.plan ≡ called self.old.plan }
+        ensures called { OnOk result (self.new.plan ≡ called self.old.plan) }
+        ensures refused { IfErr result (HasCounted self.old.plan self.new.plan) }
         ensures plan { IfOk result (λ disk. disk.plan ≡ plan_for self.old.planned.items name) }
         ensures taken { OnOk result (self.new.planned.items ≡ without_plan self.old.planned.items name) }
         ensures not_taken { OnErr result (self.new.planned.items ≡ self.old.planned.items) }
         ensures picks { (self.new.picks ≡ self.old.picks) × (self.new.reopened ≡ self.old.reopened) }
     {
-        if !self.plan.next() {
+        if !self.plan.passes() {
+            self.plan.count();
             self.faults.rise();
             return Err(RackRefused::Fault);
         }
@@ -160,6 +165,7 @@ impl Rack for MemRack {
         let Ok(()) = self.kept.reserve(rooms) else {
             return Err(RackRefused::NoMemory);
         };
+        self.plan.count();
         self.rooms = rooms;
         let plan = take_plan(alloc, &mut self.planned, name);
         Ok(MemDisk::empty(alloc, plan))
@@ -179,14 +185,16 @@ impl Rack for MemRack {
         // Beside what each rack promises.
         ensures passed { OnOk result (passes self.old.plan ≡ true) }
         ensures failed { IfErr result (λ e. (e.why ≡ Fault) ↔ (passes self.old.plan ≡ false)) }
-        ensures called { self.new.plan ≡ called self.old.plan }
+        ensures called { OnOk result (self.new.plan ≡ called self.old.plan) }
+        ensures refused { IfErr result (λ e. HasCounted self.old.plan self.new.plan e.why) }
         ensures picked { IfOk result (λ disk. disk.bytes.items ≡ picked (pick_of self.old) old) }
         ensures next { OnOk result (self.new.reopened ≡ min (self.old.reopened + 1) (2 ^ 64 - 1)) }
         ensures not_used { OnErr result (self.new.reopened ≡ self.old.reopened) }
         ensures picks { (self.new.picks ≡ self.old.picks) × (self.new.planned.items ≡ self.old.planned.items) }
         ensures plan { IfOk result (λ disk. disk.plan ≡ record old.plan { fuse = None }) }
     {
-        if !self.plan.next() {
+        if !self.plan.passes() {
+            self.plan.count();
             self.faults.rise();
             return Err(ReopenRefused {
                 why: RackRefused::Fault,
@@ -197,6 +205,7 @@ impl Rack for MemRack {
         let pick = self.picks.as_slice().get(at).unwrap_or(&Pick::Synced);
         match old.reopened(alloc, pick) {
             Ok(disk) => {
+                self.plan.count();
                 self.reopened = at.saturating_add(1);
                 Ok(disk)
             }

@@ -33,18 +33,32 @@ impl Plan {
         Plan { fuse: None, ..self }
     }
 
+    /// Whether the next call passes.
+    pub(crate) fn passes(&self) -> bool
+        ensures { result ≡ passes self.now }
+    {
+        if let Some(fuse) = self.fuse
+            && self.number >= fuse
+        {
+            return false;
+        }
+        !self.failing.as_slice().contains(&self.number)
+    }
+
+    /// Counts a call.
+    pub(crate) fn count(&mut self)
+        ensures { self.new ≡ called self.old }
+    {
+        self.number = self.number.saturating_add(1);
+    }
+
     /// Whether the next call passes. It is one call more.
     pub(crate) fn next(&mut self) -> bool
         ensures passes { result ≡ passes self.old }
         ensures called { self.new ≡ called self.old }
     {
-        let number = self.number;
-        self.number = number.saturating_add(1);
-        if let Some(fuse) = self.fuse
-            && number >= fuse
-        {
-            return false;
-        }
-        !self.failing.as_slice().contains(&number)
+        let passes = self.passes();
+        self.count();
+        passes
     }
 }

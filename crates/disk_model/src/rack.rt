@@ -64,7 +64,8 @@ pub trait Rack {
     /// How many disks there is room to keep.
     ghost rooms: { Self → ℕ };
 
-    /// An empty disk without a fault, and room to keep one more.
+    /// An empty disk without a fault, and room to keep one more. Refused by a fault of the rack, or for want of memory;
+    /// what it keeps stays.
     fn fresh(&mut self, alloc: Global, name: DiskName) -> Result<Self::D, RackRefused>
         ensures ok { IfOk result (λ disk. IsNew (Self.D.reads disk) (Self.D.may_leave disk)) }
         ensures no_fault { IfOk result (λ disk. Self.D.faults disk ≡ 0) }

@@ -5,7 +5,8 @@ ghost use Rattle.std.specs.Borrow.{ftrue};
 use std::marker::Model;
 
 /// How many faults there were. It takes no bytes, so it has no last value, and no code can read it. What counts
-/// faults by it calls `rise` exactly where it answers `Failed`; no other fact ties the number to what happened.
+/// faults by it calls `rise` exactly where it answers `Failed`, and what takes other counts over calls `add`; no other
+/// fact ties the number to what happened.
 #[derive(Drop)]
 pub struct Faults {
     pub ghost count: { ℕ },
@@ -31,6 +32,20 @@ impl Faults {
         ensures { result.count ≡ _before.now.count + 1 }
     {
         Faults {}
+    }
+
+    // Those of both counts.
+    fn with(_before: &Faults, _other: &Faults) -> Faults
+        ensures { result.count ≡ _before.now.count + _other.now.count }
+    {
+        Faults {}
+    }
+
+    /// Adds the faults of another count.
+    pub fn add(&mut self, other: &Faults)
+        ensures { self.new.count ≡ self.old.count + other.now.count }
+    {
+        *self = Faults::with(self, other);
     }
 
     /// Counts a fault.

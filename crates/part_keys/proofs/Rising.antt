@@ -2,7 +2,7 @@
 use Rattle.std.proofs.Common.{◌≡◌, ℕ, suc, ◌-◌, ◌+◌, ◌≤◌, ◌<◌, ℤ, ◌<ℤ◌, List, [], ◌∷◌, ◌++◌, Result, Ok, Err, refl, sym, ap, ◌∙◌, append_assoc, arith}
 use Rattle.std.proofs.lemmas.List.{append-nil}
 use Rattle.byte_fields.specs.declared.misfit.Misfit.{Misfit}
-use Rattle.byte_fields.specs.Reading.{◌>>=◌}
+use Rattle.byte_fields.proofs.Loops.{with_front, regroup}
 use Rattle.graph_model.specs.Types.{IsRisingFrom}
 use Rattle.part_keys.specs.Reading.{type_at, rising_types_at}
 
@@ -10,33 +10,25 @@ pub rising_push : (low : ℤ) (front : List ℤ) (a b : ℤ) → IsRisingFrom lo
 rising_push low [] a b rising above = (rising.0, (above, tt))
 rising_push low (t ∷ front) a b rising above = (rising.0, rising_push t front a b rising.1 above)
 
--- what was read before, and what is still read
-abbrev pub with_types : List ℤ → Result (List ℤ × List ℕ) Misfit → Result (List ℤ × List ℕ) Misfit
-with_types front read = read >>= λ x. Ok (front ++ x.0, x.1)
-
-regroup : (front : List ℤ) (t : ℤ) (read : Result (List ℤ × List ℕ) Misfit) → with_types front (read >>= λ y. Ok (t ∷ y.0, y.1)) ≡ with_types (front ++ t ∷ []) read
-regroup front t (Ok y) = ap (λ (xs : List ℤ). Ok (xs, y.1)) (sym (append_assoc front (t ∷ []) y.0))
-regroup front t (Err m) = refl
-
 pub types_go_on : (front : List ℤ) (count i : ℕ) (low : ℤ) (bytes : List ℕ) (t : ℤ) (after : List ℕ) (total : Result (List ℤ × List ℕ) Misfit) → i < count → type_at low bytes ≡ Ok (t, after)
-    → with_types front (rising_types_at (count - i) low bytes) ≡ total → with_types (front ++ t ∷ []) (rising_types_at (count - (i + 1)) t after) ≡ total
+    → with_front front (rising_types_at (count - i) low bytes) ≡ total → with_front (front ++ t ∷ []) (rising_types_at (count - (i + 1)) t after) ≡ total
 unfolding rising_types_at
 types_go_on front count i low bytes t after total lt read so_far =
     let k : count - i ≡ suc (count - (i + 1)) = omega arith in
-    let one : with_types front (rising_types_at (count - i) low bytes) ≡ with_types (front ++ t ∷ []) (rising_types_at (count - (i + 1)) t after) = rw (k, read) (regroup front t (rising_types_at (count - (i + 1)) t after)) in
+    let one : with_front front (rising_types_at (count - i) low bytes) ≡ with_front (front ++ t ∷ []) (rising_types_at (count - (i + 1)) t after) = rw (k, read) (regroup front t (rising_types_at (count - (i + 1)) t after)) in
     sym one ∙ so_far
 
 pub types_end : (m : Misfit) (front : List ℤ) (count i : ℕ) (low : ℤ) (bytes : List ℕ) (total : Result (List ℤ × List ℕ) Misfit) → i < count → type_at low bytes ≡ Err m
-    → with_types front (rising_types_at (count - i) low bytes) ≡ total → total ≡ Err m
+    → with_front front (rising_types_at (count - i) low bytes) ≡ total → total ≡ Err m
 unfolding rising_types_at
 types_end m front count i low bytes total lt read so_far =
     let k : count - i ≡ suc (count - (i + 1)) = omega arith in
-    let one : with_types front (rising_types_at (count - i) low bytes) ≡ Err m = rw (k, read) refl in
+    let one : with_front front (rising_types_at (count - i) low bytes) ≡ Err m = rw (k, read) refl in
     sym so_far ∙ one
 
-pub types_done : (front : List ℤ) (count i : ℕ) (low : ℤ) (bytes : List ℕ) (total : Result (List ℤ × List ℕ) Misfit) → count ≤ i → with_types front (rising_types_at (count - i) low bytes) ≡ total → total ≡ Ok (front, bytes)
+pub types_done : (front : List ℤ) (count i : ℕ) (low : ℤ) (bytes : List ℕ) (total : Result (List ℤ × List ℕ) Misfit) → count ≤ i → with_front front (rising_types_at (count - i) low bytes) ≡ total → total ≡ Ok (front, bytes)
 unfolding rising_types_at
 types_done front count i low bytes total le so_far =
     let k : count - i ≡ 0 = omega arith in
-    let one : with_types front (rising_types_at (count - i) low bytes) ≡ Ok (front, bytes) = rw k (ap (λ (xs : List ℤ). Ok (xs, bytes)) (append-nil front)) in
+    let one : with_front front (rising_types_at (count - i) low bytes) ≡ Ok (front, bytes) = rw k (ap (λ (xs : List ℤ). Ok (xs, bytes)) (append-nil front)) in
     sym so_far ∙ one

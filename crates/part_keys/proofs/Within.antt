@@ -5,7 +5,7 @@ use Rattle.std.specs.Int.{w32, w64}
 use Rattle.std.specs.Str.{is_utf8}
 use Rattle.byte_fields.specs.declared.misfit.Misfit.{Misfit}
 use Rattle.byte_fields.specs.Reading.{◌>>=◌, misfit, byte_at, number_at, signed_at, flag_at, run_at, id_at, many_at}
-use Rattle.byte_fields.proofs.Within.{IsWithin, within_less, within_then, byte_within, number_within, signed_within, flag_within, run_within, id_within, many_within, test_within}
+use Rattle.byte_fields.proofs.Within.{IsWithin, guard_within, within_less, within_then, byte_within, number_within, signed_within, flag_within, run_within, id_within, many_within, test_within}
 use Rattle.graph_model.specs.declared.half.Half.TheVariants.{Here}
 use Rattle.graph_model.specs.declared.op.Op.TheVariants as ops
 use Rattle.graph_model.specs.declared.query.Query.TheVariants as asked
@@ -17,11 +17,6 @@ use Rattle.part_keys.proofs.OtherKinds.{no_value, no_half, no_query, no_change, 
 -- a field of the bytes that are left, and then what its value asks for
 step_within : {X Y : Type 0} (n : ℕ) (bytes : List ℕ) (r : Result (X × List ℕ) Misfit) (f : X × List ℕ → Result (Y × List ℕ) Misfit) → length bytes ≤ n → IsWithin (length bytes) r → ((x : X × List ℕ) → length x.1 ≤ n → IsWithin n (f x)) → IsWithin n (r >>= f)
 step_within n bytes r f le h next = within_then n r f (within_less (length bytes) n r le h) next
-
--- a test that refuses
-guard_within : {X : Type 0} (b : Bool) (bytes : List ℕ) (n : ℕ) (r : Result (X × List ℕ) Misfit) → length bytes ≤ n → IsWithin n r → IsWithin n (cond b (Err (misfit bytes)) r)
-guard_within true bytes n r le h = le
-guard_within false bytes n r le h = h
 
 pub text_within : (bytes : List ℕ) → IsWithin (length bytes) (text_at bytes)
 unfolding text_at

@@ -16,7 +16,7 @@ use graph_model::{EdgeId, Op};
 use lists::{Bytes, NoMemory};
 use std::alloc::Global;
 
-/// A chain: its edge and its number.
+/// A chain, as its edge and its number, and the bytes after it. Refused at the first field that doesn't fit.
 #[tactic(auto, unfolding(crate::specs::Reading::chain_at))]
 pub fn read_chain(bytes: &[u8]) -> Result<((EdgeId, u64), &[u8]), Misfit>
     ensures { Reads (λ x. (x.0, x.1.now)) result (chain_at bytes.now) }
@@ -99,7 +99,7 @@ fn read_asked(alloc: Global, bytes: &[u8]) -> Result<(PartEntry, &[u8]), ReadRef
     Ok((PartEntry::Read(id, query), rest))
 }
 
-/// An entry, and the bytes after it.
+/// An entry, and the bytes after it. Refused at the first field that doesn't fit, or for want of memory.
 #[tactic(auto, unfolding(crate::specs::Reading::entry_at, byte_fields::specs::Reading::byte_at))]
 pub fn read_entry_front(alloc: Global, bytes: &[u8]) -> Result<(PartEntry, &[u8]), ReadRefused>
     ensures { Gives (λ x. (x.0, x.1.now)) result (entry_at bytes.now) }

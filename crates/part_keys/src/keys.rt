@@ -16,20 +16,20 @@ pub type EdgeKey = [u8; 33];
 /// The key of a tag's row, as its bytes.
 pub type TagKey = [u8; 16];
 
-// A signed number with its sign bit flipped: in the order of these numbers.
-fn flip_vid(v: &Vid) -> u64
-    ensures number { result ≡ flip w64 (cast_unsigned w64 v.now) }
-    ensures fits { FitsSigned w64 v.now }
+// A number with its sign bit flipped, so that unsigned numbers have its order.
+fn flip_i64(n: &i64) -> u64
+    ensures number { result ≡ flip w64 (cast_unsigned w64 n.now) }
+    ensures fits { FitsSigned w64 n.now }
 {
-    v.cast_unsigned().wrapping_add(1 << 63)
+    n.cast_unsigned().wrapping_add(1 << 63)
 }
 
-// A type with its sign bit flipped.
-fn flip_type(etype: &i32) -> u32
-    ensures number { result ≡ flip w32 (cast_unsigned w32 etype.now) }
-    ensures fits { FitsSigned w32 etype.now }
+// A number of 4 bytes with its sign bit flipped.
+fn flip_i32(n: &i32) -> u32
+    ensures number { result ≡ flip w32 (cast_unsigned w32 n.now) }
+    ensures fits { FitsSigned w32 n.now }
 {
-    etype.cast_unsigned().wrapping_add(1 << 31)
+    n.cast_unsigned().wrapping_add(1 << 31)
 }
 
 // The type of an in-edge's key.
@@ -54,10 +54,10 @@ fn edge_key(part: u32, near: &Vid, etype: &i32, rank: &i64, far: &Vid) -> EdgeKe
     let mut key = [0; 33];
     key[0] = 2;
     BigEndian::write_u24(&mut key[1..4], part);
-    BigEndian::write_u64(&mut key[4..12], flip_vid(near));
-    BigEndian::write_u32(&mut key[12..16], flip_type(etype));
-    BigEndian::write_u64(&mut key[16..24], flip_vid(rank));
-    BigEndian::write_u64(&mut key[24..32], flip_vid(far));
+    BigEndian::write_u64(&mut key[4..12], flip_i64(near));
+    BigEndian::write_u32(&mut key[12..16], flip_i32(etype));
+    BigEndian::write_u64(&mut key[16..24], flip_i64(rank));
+    BigEndian::write_u64(&mut key[24..32], flip_i64(far));
     key
 }
 
@@ -94,7 +94,7 @@ pub fn tag_key(parts: u32, v: Vid, tag: u32) -> TagKey
     let mut key = [0; 16];
     key[0] = 1;
     BigEndian::write_u24(&mut key[1..4], part_of(v, parts));
-    BigEndian::write_u64(&mut key[4..12], flip_vid(&v));
+    BigEndian::write_u64(&mut key[4..12], flip_i64(&v));
     BigEndian::write_u32(&mut key[12..16], tag);
     key
 }

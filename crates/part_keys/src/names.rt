@@ -11,7 +11,7 @@ use byte_fields::{Misfit, Writer, read_i32, read_i64, read_id, read_u64};
 use graph_model::{CallId, EdgeId, Vid};
 use lists::NoMemory;
 
-/// An edge type above `low`.
+/// An edge type, and the bytes after it. Refused where it is cut short, or not above `low`.
 #[tactic(auto, unfolding(crate::specs::Reading::type_at))]
 pub fn read_type<'a>(bytes: &'a [u8], low: &i32) -> Result<(i32, &'a [u8]), Misfit>
     ensures read { Reads (λ x. (x.0, x.1.now)) result (type_at low.now bytes.now) }
@@ -25,7 +25,8 @@ pub fn read_type<'a>(bytes: &'a [u8], low: &i32) -> Result<(i32, &'a [u8]), Misf
     Ok((etype, rest))
 }
 
-/// An edge: source, type, rank and destination.
+/// An edge, as source, type, rank and destination, and the bytes after it. Refused at the first of these that is cut
+/// short, and at a type that isn't positive.
 #[tactic(auto, unfolding(crate::specs::Reading::edge_at))]
 pub fn read_edge(bytes: &[u8]) -> Result<(EdgeId, &[u8]), Misfit>
     ensures { Reads (λ x. (x.0, x.1.now)) result (edge_at bytes.now) }
@@ -45,7 +46,8 @@ pub fn read_edge(bytes: &[u8]) -> Result<(EdgeId, &[u8]), Misfit>
     ))
 }
 
-/// A call: client and number.
+/// A call, as client and number, and the bytes after it. Refused at the first of these that is cut short, and at a
+/// client that isn't 1 to 64.
 #[tactic(auto, unfolding(crate::specs::Reading::call_at))]
 pub fn read_call(bytes: &[u8]) -> Result<(CallId, &[u8]), Misfit>
     ensures { Reads (λ x. (x.0, x.1.now)) result (call_at bytes.now) }

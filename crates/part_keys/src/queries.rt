@@ -53,7 +53,7 @@ fn read_around(alloc: Global, bytes: &[u8]) -> Result<((Vid, Types), &[u8]), Rea
     Ok(((v, types), rest))
 }
 
-/// A vertex and a tag.
+/// A vertex and a tag, and the bytes after them. Refused at the first of these that is cut short.
 #[tactic(auto, unfolding(crate::specs::Reading::tag_at))]
 pub fn read_tag(bytes: &[u8]) -> Result<((Vid, u32), &[u8]), Misfit>
     ensures { Reads (λ x. (x.0, x.1.now)) result (tag_at bytes.now) }
@@ -63,7 +63,7 @@ pub fn read_tag(bytes: &[u8]) -> Result<((Vid, u32), &[u8]), Misfit>
     Ok(((v, tag), rest))
 }
 
-/// A query.
+/// A query, and the bytes after it. Refused at the first field that doesn't fit, or for want of memory.
 #[tactic(auto, unfolding(crate::specs::Reading::query_at, byte_fields::specs::Reading::byte_at))]
 pub fn read_query(alloc: Global, bytes: &[u8]) -> Result<(Query, &[u8]), ReadRefused>
     ensures { Gives (λ x. (x.0, x.1.now)) result (query_at bytes.now) }

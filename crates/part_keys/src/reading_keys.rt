@@ -8,7 +8,7 @@ ghost use Rattle.part_keys.specs.ReadingKeys.{part_at, flipped_at, placeholder_a
 
 use crate::key::Key;
 use byte_fields::{Misfit, read_byte, read_id, read_u16, read_u32, read_u64};
-use graph_model::{EdgeId, Vid};
+use graph_model::EdgeId;
 
 #[tactic(auto, unfolding(crate::specs::ReadingKeys::part_at))]
 fn read_part(bytes: &[u8]) -> Result<(u32, &[u8]), Misfit>
@@ -23,7 +23,7 @@ fn read_part(bytes: &[u8]) -> Result<(u32, &[u8]), Misfit>
 }
 
 #[tactic(auto, unfolding(crate::specs::ReadingKeys::flipped_at))]
-fn read_vid(bytes: &[u8]) -> Result<(Vid, &[u8]), Misfit>
+fn read_flipped_i64(bytes: &[u8]) -> Result<(i64, &[u8]), Misfit>
     ensures { Reads (λ x. (x.0, x.1.now)) result (flipped_at w64 bytes.now) }
 {
     let (n, rest) = read_u64(bytes)?;
@@ -31,7 +31,7 @@ fn read_vid(bytes: &[u8]) -> Result<(Vid, &[u8]), Misfit>
 }
 
 #[tactic(auto, unfolding(crate::specs::ReadingKeys::flipped_at))]
-fn read_signed_type(bytes: &[u8]) -> Result<(i32, &[u8]), Misfit>
+fn read_flipped_i32(bytes: &[u8]) -> Result<(i32, &[u8]), Misfit>
     ensures { Reads (λ x. (x.0, x.1.now)) result (flipped_at w32 bytes.now) }
 {
     let (n, rest) = read_u32(bytes)?;
@@ -55,10 +55,10 @@ fn read_form(bytes: &[u8]) -> Result<((u32, EdgeId), &[u8]), Misfit>
     ensures { Reads (λ x. (x.0, x.1.now)) result (form_at bytes.now) }
 {
     let (part, rest) = read_part(bytes)?;
-    let (src, rest) = read_vid(rest)?;
-    let (etype, rest) = read_signed_type(rest)?;
-    let (rank, rest) = read_vid(rest)?;
-    let (dst, rest) = read_vid(rest)?;
+    let (src, rest) = read_flipped_i64(rest)?;
+    let (etype, rest) = read_flipped_i32(rest)?;
+    let (rank, rest) = read_flipped_i64(rest)?;
+    let (dst, rest) = read_flipped_i64(rest)?;
     let (_, rest) = read_placeholder(rest)?;
     let edge = EdgeId {
         src,
@@ -74,7 +74,7 @@ fn read_tag_key(bytes: &[u8]) -> Result<(Key, &[u8]), Misfit>
     ensures { Reads (λ x. (x.0, x.1.now)) result (tag_key_at bytes.now) }
 {
     let (part, rest) = read_part(bytes)?;
-    let (v, rest) = read_vid(rest)?;
+    let (v, rest) = read_flipped_i64(rest)?;
     let (tag, rest) = read_u32(rest)?;
     Ok((Key::Tag(part, v, tag), rest))
 }

@@ -11,7 +11,8 @@ use graph_model::{Half, Row, Val};
 use lists::{Listed, NoMemory, Text};
 use std::alloc::Global;
 
-/// A text behind its length: UTF-8.
+/// A text behind its length, and the bytes after it. Refused at the length or the text where that is cut short, and at
+/// the text where it isn't UTF-8.
 #[tactic(auto, unfolding(crate::specs::Reading::text_at))]
 pub fn read_text(bytes: &[u8]) -> Result<(&[u8], &[u8]), Misfit>
     ensures { Reads (λ x. (x.0.now, x.1.now)) result (text_at bytes.now) }
@@ -24,7 +25,7 @@ pub fn read_text(bytes: &[u8]) -> Result<(&[u8], &[u8]), Misfit>
     }
 }
 
-/// A value.
+/// A value, and the bytes after it. Refused at the first field that doesn't fit, or for want of memory.
 #[tactic(auto, unfolding(crate::specs::Reading::value_at, byte_fields::specs::Reading::byte_at))]
 pub fn read_value(alloc: Global, bytes: &[u8]) -> Result<(Val, &[u8]), ReadRefused>
     ensures { Gives (λ x. (x.0, x.1.now)) result (value_at bytes.now) }
@@ -60,7 +61,8 @@ fn read_values(alloc: Global, bytes: &[u8], count: u16) -> Result<(Row, &[u8]), 
     Ok((vals, rest))
 }
 
-/// A row: values behind their count.
+/// A row, values behind their count, and the bytes after it. Refused at the first field that doesn't fit, or for want
+/// of memory.
 #[tactic(auto, unfolding(crate::specs::Reading::row_at))]
 pub fn read_row(alloc: Global, bytes: &[u8]) -> Result<(Row, &[u8]), ReadRefused>
     ensures { Gives (λ x. (x.0, x.1.now)) result (row_at bytes.now) }
@@ -69,7 +71,7 @@ pub fn read_row(alloc: Global, bytes: &[u8]) -> Result<(Row, &[u8]), ReadRefused
     read_values(alloc, rest, count)
 }
 
-/// A half of an edge.
+/// A half of an edge, and the bytes after it. Refused at the first field that doesn't fit, or for want of memory.
 #[tactic(auto, unfolding(crate::specs::Reading::half_at, byte_fields::specs::Reading::byte_at))]
 pub fn read_half(alloc: Global, bytes: &[u8]) -> Result<(Half, &[u8]), ReadRefused>
     ensures { Gives (λ x. (x.0, x.1.now)) result (half_at bytes.now) }

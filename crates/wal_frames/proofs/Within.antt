@@ -3,16 +3,11 @@ use Rattle.std.proofs.Common.{ℕ, zero, suc, ◌-◌, ◌≤◌, Bool, true, fa
 use Rattle.std.specs.List.{list_any}
 use Rattle.byte_fields.specs.declared.misfit.Misfit.{Misfit}
 use Rattle.byte_fields.specs.Reading.{◌>>=◌, misfit, byte_at, number_at, id_at, rising_at, many_at, whole, inside}
-use Rattle.byte_fields.proofs.Within.{IsWithin, FaultIsWithin, within_less, within_then, byte_within, number_within, id_within, rising_within, many_within, whole_within, inside_within}
+use Rattle.byte_fields.proofs.Within.{IsWithin, guard_within, FaultIsWithin, within_less, within_then, byte_within, number_within, id_within, rising_within, many_within, whole_within, inside_within}
 use Rattle.raft_log.specs.declared.config.Config.{Config}
 use Rattle.raft_log.specs.declared.entry.Item.TheVariants.{NoOp, Members}
 use Rattle.wal_frames.proofs.OtherKinds.{no_item}
 use Rattle.wal_frames.specs.Reading.{peer_at, peers_at, config_at, item_of, entry_at, entries_at, body_at}
-
--- a test that refuses
-guard_within : {X : Type 0} (b : Bool) (bytes : List ℕ) (n : ℕ) (r : Result (X × List ℕ) Misfit) → length bytes ≤ n → IsWithin n r → IsWithin n (cond b (Err (misfit bytes)) r)
-guard_within true bytes n r le h = le
-guard_within false bytes n r le h = h
 
 pub peer_within : (others : List ℕ) (low : ℕ) (bytes : List ℕ) → IsWithin (length bytes) (peer_at others low bytes)
 unfolding peer_at

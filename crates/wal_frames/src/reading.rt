@@ -108,7 +108,8 @@ fn read_many(alloc: Global, bytes: &[u8], count: u32) -> Result<(Entries, &[u8])
     Ok((entries, rest))
 }
 
-/// Entries behind their count, and the bytes after them.
+/// Entries behind their count, and the bytes after them. Refused at the first field that doesn't fit, or for want of
+/// memory.
 #[tactic(auto, unfolding(crate::specs::Reading::entries_at))]
 pub fn read_entries(alloc: Global, bytes: &[u8]) -> Result<(Entries, &[u8]), ReadRefused>
     ensures { Gives (λ x. (x.0, x.1.now)) result (entries_at bytes.now) }

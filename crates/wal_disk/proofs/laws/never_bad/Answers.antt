@@ -1,5 +1,10 @@
+use Rattle.std.proofs.Common.{[], ◌∷◌, ◌++◌, ⊎_elim}
 use Rattle.wal_disk.proofs.Readings.{not_broken}
 use Rattle.wal_disk.proofs.laws.never_bad.Goals as goal
 
-pub returns : goal.returns
-returns c = not_broken
+pub returns-clause-file : goal.returns-clause-file
+returns-clause-file c = not_broken
+
+pub returns-clause-image : goal.returns-clause-image
+returns-clause-image c image body bodies at is broken =
+    ⊎_elim (λ before. not_broken image bodies at before broken) (λ after. not_broken image (bodies ++ body ∷ []) at after broken) is
