@@ -1,12 +1,12 @@
 -- What a line is answered, from what its calls are answered.
 use Rattle.std.specs.Prelude.{ℕ, ℤ, ◌+◌, Bool, true, false, List, [], ◌∷◌, map, flat_map, Option, None, Some, option_map, unwrap_or, if◌then◌else◌}
 use Rattle.std.specs.List.{list_any, list_all}
-use Rattle.graph_model.specs.declared.answer.Answer.{Answer}
-use Rattle.graph_model.specs.declared.answer.Answer.TheVariants as answer
-use Rattle.graph_model.specs.declared.edge_id.EdgeId.{EdgeId}
-use Rattle.graph_model.specs.declared.found.Found.{Found}
-use Rattle.graph_model.specs.declared.val.Val.{Val}
-use Rattle.graph_model.specs.declared.val.Val.TheVariants.{Null, Int}
+use Rattle.first_graph.specs.declared.answer.Answer.{Answer}
+use Rattle.first_graph.specs.declared.answer.Answer.TheVariants as answer
+use Rattle.first_graph.specs.declared.edge_id.EdgeId.{EdgeId}
+use Rattle.first_graph.specs.declared.found.Found.{Found}
+use Rattle.first_graph.specs.declared.val.Val.{Val}
+use Rattle.first_graph.specs.declared.val.Val.TheVariants.{Null, Int}
 use Rattle.first_script.specs.declared.statement.Statement.{Statement}
 use Rattle.first_script.specs.declared.statement.Statement.TheVariants.{Insert, Out, In}
 use Rattle.first_script.specs.declared.work.Work.{Work}

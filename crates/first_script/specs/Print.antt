@@ -1,8 +1,8 @@
 -- How the answers of lines are printed.
 use Rattle.std.specs.Prelude.{ℕ, ◌+◌, ◌==◌, true, false, List, [], ◌∷◌, ◌++◌, length, flat_map, codes, decimal, if◌then◌else◌}
 use Rattle.std.specs.Fmt.{signed_decimal}
-use Rattle.graph_model.specs.declared.val.Val.{Val}
-use Rattle.graph_model.specs.declared.val.Val.TheVariants.{Null, Int, Flag, Words}
+use Rattle.first_graph.specs.declared.val.Val.{Val}
+use Rattle.first_graph.specs.declared.val.Val.TheVariants.{Null, Int, Flag, Words}
 use Rattle.first_script.specs.declared.line_answer.LineAnswer.{LineAnswer}
 use Rattle.first_script.specs.declared.line_answer.LineAnswer.TheVariants.{Fine, Skipped, Pending, Rows, Conflict, Cancelled, Unknown, Syntax}
 

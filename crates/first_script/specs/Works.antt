@@ -1,9 +1,9 @@
 -- What there is to do for each line of a script.
 use Rattle.std.specs.Prelude.{ℕ, pos, Bool, true, false, List, [], ◌∷◌, Option, None, Some}
-use Rattle.graph_model.specs.declared.op.Op.{Op}
-use Rattle.graph_model.specs.declared.op.Op.TheVariants.{PutEdge, Read}
-use Rattle.graph_model.specs.declared.query.Query.TheVariants as query
-use Rattle.graph_model.specs.declared.val.Val.TheVariants.{Int}
+use Rattle.first_graph.specs.declared.op.Op.{Op}
+use Rattle.first_graph.specs.declared.op.Op.TheVariants.{PutEdge, Read}
+use Rattle.first_graph.specs.declared.query.Query.TheVariants as query
+use Rattle.first_graph.specs.declared.val.Val.TheVariants.{Int}
 use Rattle.first_script.specs.declared.statement.Statement.{Statement}
 use Rattle.first_script.specs.declared.statement.Statement.TheVariants.{Insert, Out, In}
 use Rattle.first_script.specs.declared.work.Awaited.{Awaited}

@@ -1,4 +1,5 @@
-//! The first script form of the graph store: what its lines ask, and how its answers are printed.
+//! The script of the first path: what its lines ask, and how its answers are printed. The replicated program will
+//! take its place.
 //!
 //! A script makes one space and one edge type, and then puts edges (`INSERT EDGE`) and asks for the edges that leave
 //! or enter a vertex (`GO FROM .. OVER ..`), a statement a line. Any other line is refused by itself; where one of
@@ -9,7 +10,7 @@
 //! once the call is, and `print_line` adds its printed form. The module `laws` proves that each statement that is
 //! spelled is read, whatever texts spell its numbers.
 //!
-//! Below are the graph machine's values (crate `graph_model`) and lists (crate `lists`); above is the program that
+//! Below are the graph machine's values (crate `first_graph`) and lists (crate `lists`); above is the program that
 //! runs a script against a store.
 #![tactic(auto)]
 

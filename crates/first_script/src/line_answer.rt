@@ -3,7 +3,7 @@ ghost use Rattle.std.specs.Prelude.{◌≡◌, [], ◌∷◌, map, IfOk};
 ghost use Rattle.first_script.specs.Answers as spec;
 
 use crate::statement::Statement;
-use graph_model::{Answer, CallId, Found, Row, Val};
+use first_graph::{Answer, CallId, Found, Row, Val};
 use lists::{Listed, NoMemory};
 use std::alloc::Global;
 

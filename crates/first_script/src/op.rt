@@ -3,7 +3,7 @@ ghost use Rattle.std.specs.Prelude.{◌≡◌, IfOk};
 ghost use Rattle.first_script.specs.Works as works;
 
 use crate::statement::Statement;
-use graph_model::{EdgeId, Op, Query, Row, Types, Val};
+use first_graph::{EdgeId, Op, Query, Row, Types, Val};
 use lists::NoMemory;
 use std::alloc::Global;
 

@@ -3,7 +3,7 @@ ghost use Rattle.std.specs.Prelude.{◌≡◌, ◌++◌, flat_map, codes, decima
 ghost use Rattle.first_script.specs.Print as spec;
 
 use crate::line_answer::LineAnswer;
-use graph_model::{Row, Val};
+use first_graph::{Row, Val};
 use itoa::Buffer;
 use lists::NoMemory;
 

@@ -7,19 +7,13 @@
 #![tactic(auto)]
 
 use lists::{Listed, NoMemory, Text};
-use nebstore_app::run_script;
+use nebstore_app::{Outcome, run_script};
 use outside_io::{StdSink, StdSource};
 use std::alloc::Global;
 use std::env;
 use std::env::Args;
 use std::io::ErrorKind;
 use std::process::ExitCode;
-
-/// The status where a word isn't a text, and so isn't one that is wanted.
-const WRONG_WORDS: u8 = 2;
-
-/// The status where there is no memory for the words.
-const NO_MEMORY: u8 = 5;
 
 fn main(rt: HostRuntime) -> ExitCode {
     let alloc = rt.alloc();
@@ -30,11 +24,12 @@ fn main(rt: HostRuntime) -> ExitCode {
                 let mut sink = StdSink::new(rt.stdout());
                 run_script(alloc, words.as_slice(), &mut source, &mut sink).status
             }
-            Err(NoMemory) => NO_MEMORY,
+            Err(NoMemory) => Outcome::NoMemory.status(),
         },
         Err(error) => match error.kind() {
-            ErrorKind::OutOfMemory => NO_MEMORY,
-            _ => WRONG_WORDS,
+            ErrorKind::OutOfMemory => Outcome::NoMemory.status(),
+            // A word that is no text isn't one that is wanted.
+            _ => Outcome::WrongWords.status(),
         },
     };
     if status != 0 {

@@ -1,7 +1,7 @@
 -- What a call means for its line.
 use Rattle.std.proofs.Common.{◌≡◌, ℕ, ◌+◌, List, [], ◌∷◌, ◌++◌, take, zero, suc, refl, ap, sym, ◌∙◌, arith}
-use Rattle.graph_model.specs.declared.answer.Answer.{Answer}
-use Rattle.graph_model.specs.declared.op.Op.{Op}
+use Rattle.first_graph.specs.declared.answer.Answer.{Answer}
+use Rattle.first_graph.specs.declared.op.Op.{Op}
 use Rattle.first_script.specs.Works.{op_of}
 use Rattle.first_script.specs.Answers.{statement_answer}
 use Rattle.first_script.specs.declared.statement.Statement.{Statement}

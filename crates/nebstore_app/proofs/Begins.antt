@@ -5,27 +5,27 @@ use Rattle.std.specs.Option.{option_map}
 use Rattle.std.specs.FinMap.{get}
 use Rattle.std.specs.Cmp.{nat_cmp_total}
 use Rattle.std.specs.Ordering.{eq_by_cmp}
-use Rattle.graph_model.specs.Keys.{call_cmp, in_key}
-use Rattle.graph_model.specs.Marks.{with_state}
-use Rattle.graph_model.specs.Machine.{Machine}
-use Rattle.graph_model.specs.declared.val.Val.{Val}
-use Rattle.graph_model.specs.declared.edge_id.EdgeId.{EdgeId}
-use Rattle.graph_model.specs.declared.call_id.CallId.{CallId}
-use Rattle.graph_model.specs.declared.change.Change.TheVariants.{Nothing}
-use Rattle.graph_model.specs.declared.half.Half.TheVariants.{Here}
-use Rattle.graph_model.specs.declared.op.Op.{Op}
-use Rattle.graph_model.specs.declared.op.Op.TheVariants.{PutEdge}
-use Rattle.graph_model.specs.declared.call.CallState.TheVariants.{Open, Begun as BegunState}
-use Rattle.graph_model.specs.declared.graph_step.GStep.TheVariants as step
-use Rattle.graph_model.proofs.KeyLemmas.{edges_total, calls_total, calls_exact}
-use Rattle.graph_model.proofs.Updates.{same_or_apart, with_at_here, with_at_apart, altered_here, altered_apart}
-use Rattle.part_machine.specs.InHalf.{number_of, row_in}
-use Rattle.part_machine.specs.Part.{Part, where_new, primed, begun}
-use Rattle.part_machine.specs.declared.clients.Kept.{Kept}
-use Rattle.part_machine.specs.declared.clients.Outcome.TheVariants.{Open as OpenThen}
-use Rattle.part_keys.specs.declared.entry.PartEntry.TheVariants.{Prime}
-use Rattle.part_machine.specs.declared.applied.Applied.{Applied}
-use Rattle.part_machine.specs.declared.applied.Applied.TheVariants.{Begun}
+use Rattle.first_graph.specs.Keys.{call_cmp, in_key}
+use Rattle.first_graph.specs.Marks.{with_state}
+use Rattle.first_graph.specs.Machine.{Machine}
+use Rattle.first_graph.specs.declared.val.Val.{Val}
+use Rattle.first_graph.specs.declared.edge_id.EdgeId.{EdgeId}
+use Rattle.first_graph.specs.declared.call_id.CallId.{CallId}
+use Rattle.first_graph.specs.declared.change.Change.TheVariants.{Nothing}
+use Rattle.first_graph.specs.declared.half.Half.TheVariants.{Here}
+use Rattle.first_graph.specs.declared.op.Op.{Op}
+use Rattle.first_graph.specs.declared.op.Op.TheVariants.{PutEdge}
+use Rattle.first_graph.specs.declared.call.CallState.TheVariants.{Open, Begun as BegunState}
+use Rattle.first_graph.specs.declared.graph_step.GStep.TheVariants as step
+use Rattle.first_graph.proofs.KeyLemmas.{edges_total, calls_total, calls_exact}
+use Rattle.first_graph.proofs.Updates.{same_or_apart, with_at_here, with_at_apart, altered_here, altered_apart}
+use Rattle.first_part.specs.InHalf.{number_of, row_in}
+use Rattle.first_part.specs.Part.{Part, where_new, primed, begun}
+use Rattle.first_part.specs.declared.clients.Kept.{Kept}
+use Rattle.first_part.specs.declared.clients.Outcome.TheVariants.{Open as OpenThen}
+use Rattle.first_part.specs.declared.entry.PartEntry.TheVariants.{Prime}
+use Rattle.first_part.specs.declared.applied.Applied.{Applied}
+use Rattle.first_part.specs.declared.applied.Applied.TheVariants.{Begun}
 use Rattle.nebstore_app.specs.declared.event.Event.TheVariants.{Invoke, Deliver}
 use Rattle.nebstore_app.specs.Replica.{next_index}
 use Rattle.nebstore_app.specs.Packets.{part_of, the_client, request, request_of}

@@ -4,9 +4,9 @@ use Rattle.std.specs.Prelude.{slice_get}
 use Rattle.nebstore_app.specs.declared.event.Event.{Event}
 use Rattle.nebstore_app.specs.declared.event.Event.TheVariants.{Invoke, Deliver, Reply}
 use Rattle.nebstore_app.specs.declared.packet.Packet.{Packet}
-use Rattle.part_keys.specs.declared.entry.PartEntry.{PartEntry}
+use Rattle.first_part.specs.declared.entry.PartEntry.{PartEntry}
 use Rattle.nebstore_app.specs.Packets.{entry_in, request_of}
-use Rattle.graph_model.specs.declared.call_id.CallId.{CallId}
+use Rattle.first_graph.specs.declared.call_id.CallId.{CallId}
 use Rattle.nebstore_app.specs.World.{World, start, after, delivered, received, invoked, Lawful, Run, IsReached}
 
 received-last : (w : World) (k : ℕ) (p : Packet) (x : Option (ℕ × PartEntry)) → (received w k p x).last ≡ w.last

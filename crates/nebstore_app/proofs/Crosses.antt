@@ -3,18 +3,18 @@ use Rattle.std.proofs.Common.{◌≡◌, ℕ, ◌≤◌, ◌<◌, length, [], �
 use Rattle.std.specs.Prelude.{nat_lt, if◌then◌else◌}
 use Rattle.std.specs.Option.{option_map}
 use Rattle.std.specs.FinMap.{get}
-use Rattle.graph_model.specs.Keys.{in_key}
-use Rattle.graph_model.specs.Marks.{with_in_done}
-use Rattle.graph_model.specs.Contents.{row_of, changed}
-use Rattle.graph_model.specs.Machine.{Machine}
-use Rattle.graph_model.specs.declared.change.Change.TheVariants.{In}
-use Rattle.graph_model.specs.declared.graph_step.GStep.TheVariants as step
-use Rattle.graph_model.proofs.KeyLemmas.{edges_total, ins_total, ins_exact}
-use Rattle.graph_model.proofs.Updates.{same_or_apart, with_at_here, with_at_apart, altered_here, altered_apart}
-use Rattle.part_machine.specs.InHalf.{number_of, row_in}
-use Rattle.part_machine.specs.Part.{is_fresh, written}
-use Rattle.part_keys.specs.declared.entry.PartEntry.TheVariants.{Remote}
-use Rattle.part_machine.specs.declared.applied.Applied.TheVariants.{Done}
+use Rattle.first_graph.specs.Keys.{in_key}
+use Rattle.first_graph.specs.Marks.{with_in_done}
+use Rattle.first_graph.specs.Contents.{row_of, changed}
+use Rattle.first_graph.specs.Machine.{Machine}
+use Rattle.first_graph.specs.declared.change.Change.TheVariants.{In}
+use Rattle.first_graph.specs.declared.graph_step.GStep.TheVariants as step
+use Rattle.first_graph.proofs.KeyLemmas.{edges_total, ins_total, ins_exact}
+use Rattle.first_graph.proofs.Updates.{same_or_apart, with_at_here, with_at_apart, altered_here, altered_apart}
+use Rattle.first_part.specs.InHalf.{number_of, row_in}
+use Rattle.first_part.specs.Part.{is_fresh, written}
+use Rattle.first_part.specs.declared.entry.PartEntry.TheVariants.{Remote}
+use Rattle.first_part.specs.declared.applied.Applied.TheVariants.{Done}
 use Rattle.nebstore_app.specs.declared.event.Event.TheVariants.{Deliver}
 use Rattle.nebstore_app.specs.Packets.{part_of, the_client, the_term}
 use Rattle.nebstore_app.specs.World.{World, replica_of, last_call}

@@ -1,10 +1,10 @@
 -- What the delivery of the one packet under way makes of the world.
 use Rattle.std.proofs.Common.{◌≡◌, ℕ, ◌+◌, ◌≤◌, length, List, [], ◌∷◌, ◌++◌, drop, Option, Some, None, ap, ◌∙◌, arith, length-append, inl, inr}
 use Rattle.std.specs.Prelude.{slice_get}
-use Rattle.graph_model.specs.declared.answer.Answer.{Answer}
-use Rattle.part_machine.specs.Part.{Part, applied}
-use Rattle.part_keys.specs.declared.entry.PartEntry.{PartEntry}
-use Rattle.part_machine.specs.declared.applied.Applied.{Applied}
+use Rattle.first_graph.specs.declared.answer.Answer.{Answer}
+use Rattle.first_part.specs.Part.{Part, applied}
+use Rattle.first_part.specs.declared.entry.PartEntry.{PartEntry}
+use Rattle.first_part.specs.declared.applied.Applied.{Applied}
 use Rattle.nebstore_app.specs.declared.packet.Packet.{Packet}
 use Rattle.nebstore_app.specs.declared.event.Event.TheVariants.{Deliver}
 use Rattle.nebstore_app.specs.Replica.{Replica, next_index}

@@ -2,17 +2,17 @@
 use Rattle.std.proofs.Common.{◌≡◌, ℕ, ◌-◌, length, List, [], ◌∷◌, ◌++◌, replicate, Some, None, true, false, refl, ap, sym, ◌∙◌, arith, rules, length-append}
 use Rattle.std.specs.Prelude.{◌==◌, slice_index}
 use Rattle.std.specs.Option.{option_map}
-use Rattle.graph_model.specs.Marks.{with_state, with_said}
-use Rattle.graph_model.specs.Views.{view_of}
-use Rattle.graph_model.specs.Machine.{Machine, contents_at}
-use Rattle.graph_model.specs.declared.call_id.CallId.{CallId}
-use Rattle.graph_model.specs.declared.change.Change.TheVariants.{Nothing}
-use Rattle.graph_model.specs.declared.answer.Answer.{Answer}
-use Rattle.graph_model.specs.declared.answer.Answer.TheVariants.{Fine, Shown}
-use Rattle.graph_model.specs.declared.call.CallState.TheVariants.{Done}
-use Rattle.graph_model.specs.declared.graph_step.GStep.TheVariants as step
-use Rattle.graph_model.proofs.KeyLemmas.{calls_total}
-use Rattle.graph_model.proofs.Updates.{altered_here, altered_apart}
+use Rattle.first_graph.specs.Marks.{with_state, with_said}
+use Rattle.first_graph.specs.Views.{view_of}
+use Rattle.first_graph.specs.Machine.{Machine, contents_at}
+use Rattle.first_graph.specs.declared.call_id.CallId.{CallId}
+use Rattle.first_graph.specs.declared.change.Change.TheVariants.{Nothing}
+use Rattle.first_graph.specs.declared.answer.Answer.{Answer}
+use Rattle.first_graph.specs.declared.answer.Answer.TheVariants.{Fine, Shown}
+use Rattle.first_graph.specs.declared.call.CallState.TheVariants.{Done}
+use Rattle.first_graph.specs.declared.graph_step.GStep.TheVariants as step
+use Rattle.first_graph.proofs.KeyLemmas.{calls_total}
+use Rattle.first_graph.proofs.Updates.{altered_here, altered_apart}
 use Rattle.nebstore_app.specs.declared.due.Due.{Due}
 use Rattle.nebstore_app.specs.declared.event.Event.TheVariants.{Deliver, Reply}
 use Rattle.nebstore_app.specs.Packets.{the_client, answer_packet}

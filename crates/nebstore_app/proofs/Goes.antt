@@ -2,27 +2,27 @@
 use Rattle.std.proofs.Common.{◌≡◌, ℕ, ◌+◌, ◌≤◌, length, List, [], ◌∷◌, ◌++◌, Option, Some, None, Ok, Bool, true, false, refl, ap, sym, subst, ◌∙◌, inl, inr, arith}
 use Rattle.std.specs.Prelude.{not, ◌&&◌, nat_le}
 use Rattle.std.specs.FinMap.{get, insert, remove}
-use Rattle.graph_model.specs.declared.val.Val.{Val}
-use Rattle.graph_model.specs.declared.edge_id.EdgeId.{EdgeId}
-use Rattle.graph_model.specs.declared.call_id.CallId.{CallId}
-use Rattle.graph_model.specs.declared.half.Half.{Half}
-use Rattle.graph_model.specs.declared.half.Half.TheVariants.{Here}
-use Rattle.graph_model.specs.declared.query.Query.{Query}
-use Rattle.graph_model.specs.declared.change.Change.TheVariants.{Nothing, Out, In}
-use Rattle.graph_model.specs.declared.op.Op.{Op}
-use Rattle.graph_model.specs.declared.op.Op.TheVariants.{PutEdge, Read as ReadOp}
-use Rattle.graph_model.specs.declared.answer.Answer.{Answer}
-use Rattle.graph_model.specs.declared.answer.Answer.TheVariants.{Fine, Shown}
-use Rattle.graph_model.specs.declared.call.CallState.TheVariants.{Open, Begun, Done}
-use Rattle.graph_model.specs.declared.call.Call.{Call}
-use Rattle.graph_model.specs.declared.chain.Chain.{Chain}
-use Rattle.graph_model.specs.declared.graph_step.GStep.TheVariants.{Invoke, Begin, InHalf, OutHalf, Settle, Read, Reply}
-use Rattle.graph_model.specs.declared.misfit.Misfit.TheVariants.{HalfDone, HalfMissing, NotOpen, WrongAnswer}
-use Rattle.graph_model.specs.Maps.{altered}
-use Rattle.graph_model.specs.Marks.{with_in_done, with_out_done, with_state, with_shown, with_said}
-use Rattle.graph_model.specs.Views.{view_of}
-use Rattle.graph_model.specs.Machine.{Machine, Step, IsRightAt, taken, contents_at, invoked, begun, begun_by, begun_on, in_written, out_written, settled, read_at, replied}
-use Rattle.graph_model.specs.Machine as machine
+use Rattle.first_graph.specs.declared.val.Val.{Val}
+use Rattle.first_graph.specs.declared.edge_id.EdgeId.{EdgeId}
+use Rattle.first_graph.specs.declared.call_id.CallId.{CallId}
+use Rattle.first_graph.specs.declared.half.Half.{Half}
+use Rattle.first_graph.specs.declared.half.Half.TheVariants.{Here}
+use Rattle.first_graph.specs.declared.query.Query.{Query}
+use Rattle.first_graph.specs.declared.change.Change.TheVariants.{Nothing, Out, In}
+use Rattle.first_graph.specs.declared.op.Op.{Op}
+use Rattle.first_graph.specs.declared.op.Op.TheVariants.{PutEdge, Read as ReadOp}
+use Rattle.first_graph.specs.declared.answer.Answer.{Answer}
+use Rattle.first_graph.specs.declared.answer.Answer.TheVariants.{Fine, Shown}
+use Rattle.first_graph.specs.declared.call.CallState.TheVariants.{Open, Begun, Done}
+use Rattle.first_graph.specs.declared.call.Call.{Call}
+use Rattle.first_graph.specs.declared.chain.Chain.{Chain}
+use Rattle.first_graph.specs.declared.graph_step.GStep.TheVariants.{Invoke, Begin, InHalf, OutHalf, Settle, Read, Reply}
+use Rattle.first_graph.specs.declared.misfit.Misfit.TheVariants.{HalfDone, HalfMissing, NotOpen, WrongAnswer}
+use Rattle.first_graph.specs.Maps.{altered}
+use Rattle.first_graph.specs.Marks.{with_in_done, with_out_done, with_state, with_shown, with_said}
+use Rattle.first_graph.specs.Views.{view_of}
+use Rattle.first_graph.specs.Machine.{Machine, Step, IsRightAt, taken, contents_at, invoked, begun, begun_by, begun_on, in_written, out_written, settled, read_at, replied}
+use Rattle.first_graph.specs.Machine as machine
 
 -- the machine after a call was invoked
 abbrev pub then_invoked : Machine → CallId → Op → Machine

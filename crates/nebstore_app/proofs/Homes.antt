@@ -5,8 +5,8 @@ use Rattle.std.specs.FinMap.{FinMap, get}
 use Rattle.std.specs.Cmp.{IsTotalOrder}
 use Rattle.std.specs.Ordering.{eq_by_cmp}
 use Rattle.std.specs.declared.cmp.Ordering.{Ordering}
-use Rattle.graph_model.specs.Maps.{with_at}
-use Rattle.graph_model.proofs.Updates.{with_at_here, with_at_apart}
+use Rattle.first_graph.specs.Maps.{with_at}
+use Rattle.first_graph.proofs.Updates.{with_at_here, with_at_apart}
 use Rattle.nebstore_app.specs.declared.packet.Packet.{Packet}
 use Rattle.nebstore_app.specs.Replica.{Replica}
 use Rattle.nebstore_app.specs.World.{World, replica_of, with_replica}

@@ -1,11 +1,14 @@
--- What a status says, by how the reading of the script ended.
-use Rattle.std.proofs.Common.{◌≡◌, ◌≤◌, ◌<◌, ◌⊎◌, inl, inr, ℕ, List, [], ◌∷◌, length, take, zero, suc, Option, Bool, true, false, refl, ap, sym, subst, arith}
+-- What an outcome says, by how the reading of the script ended.
+use Rattle.std.proofs.Common.{◌≡◌, ◌≤◌, inl, inr, ℕ, List, [], ◌∷◌, length, take, zero, suc, Option, Some, None, refl, ap, sym, subst, ◌∙◌, arith}
 use Rattle.first_script.specs.Works.{works}
 use Rattle.first_script.specs.Lines.{whole_lines}
-use Rattle.outside_io.specs.Bytes.{IsEnded}
+use Rattle.outside_io.specs.Bytes.{before_told}
 use Rattle.nebstore_app.specs.declared.event.Event.{Event}
-use Rattle.nebstore_app.specs.Answering.{most_bytes, script_of, lines_by}
-use Rattle.nebstore_app.specs.Report.{Outcome, RanTo, RunsToEnd, StopsEarly}
+use Rattle.nebstore_app.specs.declared.outcome.Outcome.{Outcome}
+use Rattle.nebstore_app.specs.declared.outcome.Outcome.TheVariants.{WrongWords, Ended, SourceFailed, SinkFailed, NoMemory, TooLong}
+use Rattle.nebstore_app.specs.World.{World, start}
+use Rattle.nebstore_app.specs.Answering.{most_bytes}
+use Rattle.nebstore_app.specs.Outcome.{status_of, Reading, Writing, IsReadToEnd, IsReadToFault, IsReadTooFar, whole_script, front_of_script, RunsToEnd, StopsEarly, IsLeft, Says, RanTo}
 use Rattle.nebstore_app.proofs.Fronts.{nothing_written}
 
 take_within : {A : Type 0} (n : ℕ) (xs : List A) → length xs ≤ n → take n xs ≡ xs
@@ -14,70 +17,50 @@ take_within (suc n) [] h = refl
 take_within zero (x ∷ xs) h = absurd (omega (arith, h))
 take_within (suc n) (x ∷ xs) h = ap (λ ys. x ∷ ys) (take_within n xs (omega (arith, h)))
 
--- all lines that count were run, of a script that was cut off
-cut_to_end : (status done : ℕ) (read : List ℕ) (left : Option (List ℕ)) (events : List Event) (old new : Option (List ℕ)) → status ≡ done
-    → ((done ≡ 3) × (length read ≤ most_bytes)) ⊎ ((done ≡ 6) × (most_bytes < length read)) → RunsToEnd (script_of true read) events old new → Outcome status read left events old new
-cut_to_end status done read left events old new is (inl h) runs = record {
-  ended = λ e. absurd (omega (arith, is, h.0, e));
-  cut = λ e. runs;
-  stopped = elim [ inl e ↦ absurd (omega (arith, is, h.0, e)) | inr e ↦ absurd (omega (arith, is, h.0, e)) ];
-  too_long = λ e. absurd (omega (arith, is, h.0, e));
-  short = λ e. h.1;
-}
-cut_to_end status done read left events old new is (inr h) runs = record {
-  ended = λ e. absurd (omega (arith, is, h.0, e));
-  cut = λ e. runs;
-  stopped = elim [ inl e ↦ absurd (omega (arith, is, h.0, e)) | inr e ↦ absurd (omega (arith, is, h.0, e)) ];
-  too_long = λ e. h.1;
-  short = elim [ inl e ↦ absurd (omega (arith, is, h.0, e)) | inr e ↦ absurd (omega (arith, is, h.0, e)) ];
-}
+-- the lines that an LF ends were run
+module _ (outcome : Outcome) (r : Reading) (events : List Event) (w : Writing) where
+  says_front : (done : Outcome) → (RunsToEnd (front_of_script r) events w → Says done r events w) → RanTo done (front_of_script r) events w outcome → Says outcome r events w
+  says_front done whole (inl h) = subst (λ o. Says o r events w) (sym h.0) (whole h.1)
+  says_front done whole (inr (inl h)) = subst (λ o. Says o r events w) (sym h.0) (h.1, inr h.2)
+  says_front done whole (inr (inr h)) = subst (λ o. Says o r events w) (sym h.0) (h.1, inr h.2)
 
--- the run was left early
-pub left_early : (status : ℕ) (is_cut : Bool) (read : List ℕ) (left : Option (List ℕ)) (events : List Event) (old new : Option (List ℕ)) → (status ≡ 4) ⊎ (status ≡ 5) → StopsEarly (script_of is_cut read) events old new → Outcome status read left events old new
-left_early status is_cut read left events old new (inl is) stops = record {
-  ended = λ e. absurd (omega (arith, is, e));
-  cut = elim [ inl e ↦ absurd (omega (arith, is, e)) | inr e ↦ absurd (omega (arith, is, e)) ];
-  stopped = λ e. (is_cut, stops);
-  too_long = λ e. absurd (omega (arith, is, e));
-  short = elim [ inl e ↦ absurd (omega (arith, is, e)) | inr e ↦ absurd (omega (arith, is, e)) ];
-}
-left_early status is_cut read left events old new (inr is) stops = record {
-  ended = λ e. absurd (omega (arith, is, e));
-  cut = elim [ inl e ↦ absurd (omega (arith, is, e)) | inr e ↦ absurd (omega (arith, is, e)) ];
-  stopped = λ e. (is_cut, stops);
-  too_long = λ e. absurd (omega (arith, is, e));
-  short = elim [ inl e ↦ absurd (omega (arith, is, e)) | inr e ↦ absurd (omega (arith, is, e)) ];
-}
+  -- the source is at its end
+  pub says_ended : IsReadToEnd r → RanTo Ended (whole_script r) events w outcome → Says outcome r events w
+  says_ended e (inl h) = subst (λ o. Says o r events w) (sym h.0) (e, h.1)
+  says_ended e (inr (inl h)) = subst (λ o. Says o r events w) (sym h.0) (h.1, inl (e, h.2))
+  says_ended e (inr (inr h)) = subst (λ o. Says o r events w) (sym h.0) (h.1, inl (e, h.2))
 
--- the source ended
-pub source_ended : (status : ℕ) (read : List ℕ) (left : Option (List ℕ)) (events : List Event) (old new : Option (List ℕ)) → IsEnded left → length read ≤ most_bytes → RanTo status 0 (works (lines_by false read)) events old new → Outcome status read left events old new
-source_ended status read left events old new ended few (inl h) = record {
-  ended = λ e. (ended, h.1);
-  cut = elim [ inl e ↦ absurd (let is = h.0 in omega (arith, is, e)) | inr e ↦ absurd (let is = h.0 in omega (arith, is, e)) ];
-  stopped = elim [ inl e ↦ absurd (let is = h.0 in omega (arith, is, e)) | inr e ↦ absurd (let is = h.0 in omega (arith, is, e)) ];
-  too_long = λ e. absurd (let is = h.0 in omega (arith, is, e));
-  short = λ e. few;
-}
-source_ended status read left events old new ended few (inr h) = left_early status false read left events old new h.0 h.1
+  -- the source failed
+  pub says_failed : (front : List ℕ) → IsReadToFault r → front ≡ r.read → RanTo SourceFailed (works (whole_lines front)) events w outcome → Says outcome r events w
+  says_failed front e is ran =
+      says_front SourceFailed (λ whole. (e, whole))
+      (subst (λ bytes. RanTo SourceFailed (works (whole_lines bytes)) events w outcome) (is ∙ sym (take_within most_bytes r.read e.few)) ran)
 
--- the source failed
-pub source_failed : (status : ℕ) (read : List ℕ) (left : Option (List ℕ)) (events : List Event) (old new : Option (List ℕ)) → length read ≤ most_bytes → RanTo status 3 (works (lines_by true read)) events old new → Outcome status read left events old new
-source_failed status read left events old new few (inl h) =
-    cut_to_end status 3 read left events old new h.0 (inl (refl, few)) (subst (λ bytes. RunsToEnd (works (whole_lines bytes)) events old new) (sym (take_within most_bytes read few)) h.1)
-source_failed status read left events old new few (inr h) =
-    left_early status true read left events old new h.0 (subst (λ bytes. StopsEarly (works (whole_lines bytes)) events old new) (sym (take_within most_bytes read few)) h.1)
-
--- the script is too long
-pub script_full : (status : ℕ) (read part : List ℕ) (left : Option (List ℕ)) (events : List Event) (old new : Option (List ℕ)) → most_bytes < length read → part ≡ take most_bytes read → RanTo status 6 (works (lines_by true part)) events old new → Outcome status read left events old new
-script_full status read part left events old new many is (inl h) =
-    cut_to_end status 6 read left events old new h.0 (inr (refl, many)) (subst (λ bytes. RunsToEnd (works (whole_lines bytes)) events old new) is h.1)
-script_full status read part left events old new many is (inr h) =
-    left_early status true read left events old new h.0 (subst (λ bytes. StopsEarly (works (whole_lines bytes)) events old new) is h.1)
+  -- there are more bytes than count
+  pub says_too_long : (front : List ℕ) → IsReadTooFar r → front ≡ take most_bytes r.read → RanTo TooLong (works (whole_lines front)) events w outcome → Says outcome r events w
+  says_too_long front e is ran =
+      says_front TooLong (λ whole. (e, whole))
+      (subst (λ bytes. RanTo TooLong (works (whole_lines bytes)) events w outcome) is ran)
 
 -- memory ran out before the first line
-pub nothing_run : (read : List ℕ) (left : Option (List ℕ)) (old : Option (List ℕ)) → Outcome 5 read left [] old old
-nothing_run read left old = left_early 5 false read left [] old old (inr refl) (record {
-  answers = [];
-  answered = record { made = 0; calls = refl; replies = refl; few = omega arith };
-  written = nothing_written old _;
-})
+pub nothing_run : (r : Reading) (w : World) (old : Option (List ℕ)) (faults : ℕ) → w ≡ start → IsLeft r w.events (record { old = old; new = old; old_faults = faults; new_faults = faults })
+nothing_run r w old faults is =
+    inr (subst (λ (v : World). StopsEarly (front_of_script r) v.events (record { old = old; new = old; old_faults = faults; new_faults = faults })) (sym is) (record {
+      answers = [];
+      answered = record { made = 0; calls = refl; replies = refl; few = omega arith };
+      written = nothing_written old _;
+    }))
+
+-- nothing was read
+pub nothing_read : (left : Option (List ℕ)) → left ≡ before_told [] left
+nothing_read None = refl
+nothing_read (Some bytes) = refl
+
+-- the status tells wrong words from the others
+pub is_wrong : (outcome : Outcome) → status_of outcome ≡ 2 → outcome ≡ WrongWords
+is_wrong WrongWords is = refl
+is_wrong Ended is = absurd (omega (arith, is))
+is_wrong SourceFailed is = absurd (omega (arith, is))
+is_wrong SinkFailed is = absurd (omega (arith, is))
+is_wrong NoMemory is = absurd (omega (arith, is))
+is_wrong TooLong is = absurd (omega (arith, is))

@@ -4,17 +4,17 @@ use Rattle.std.specs.Prelude.{IsSome, ◌==◌, if◌then◌else◌}
 use Rattle.std.specs.Option.{option_map}
 use Rattle.std.specs.FinMap.{get, get-empty}
 use Rattle.std.specs.Ordering.{nat_cmp}
-use Rattle.graph_model.specs.Keys.{edge_cmp, in_cmp, call_cmp}
-use Rattle.graph_model.specs.Machine.{Machine, start as nothing_yet}
-use Rattle.graph_model.specs.Run.{Run as GraphRun}
-use Rattle.graph_model.specs.declared.answer.Answer.{Answer}
-use Rattle.graph_model.specs.declared.call_id.CallId.{CallId}
-use Rattle.graph_model.specs.declared.op.Op.{Op}
-use Rattle.graph_model.specs.declared.op.Op.TheVariants.{PutEdge, DelEdge, PutVertex, DelVertex, Read as ReadOp}
-use Rattle.graph_model.specs.declared.query.Query.TheVariants.{Tag, Edge, Out, In, Both}
-use Rattle.graph_model.specs.declared.call.CallState.TheVariants.{Open}
-use Rattle.graph_model.specs.declared.graph_step.GStep.{GStep}
-use Rattle.part_machine.specs.InHalf.{number_of, row_in}
+use Rattle.first_graph.specs.Keys.{edge_cmp, in_cmp, call_cmp}
+use Rattle.first_graph.specs.Machine.{Machine, start as nothing_yet}
+use Rattle.first_graph.specs.Run.{Run as GraphRun}
+use Rattle.first_graph.specs.declared.answer.Answer.{Answer}
+use Rattle.first_graph.specs.declared.call_id.CallId.{CallId}
+use Rattle.first_graph.specs.declared.op.Op.{Op}
+use Rattle.first_graph.specs.declared.op.Op.TheVariants.{PutEdge, DelEdge, PutVertex, DelVertex, Read as ReadOp}
+use Rattle.first_graph.specs.declared.query.Query.TheVariants.{Tag, Edge, Out, In, Both}
+use Rattle.first_graph.specs.declared.call.CallState.TheVariants.{Open}
+use Rattle.first_graph.specs.declared.graph_step.GStep.{GStep}
+use Rattle.first_part.specs.InHalf.{number_of, row_in}
 use Rattle.nebstore_app.specs.declared.due.Due.{Due}
 use Rattle.nebstore_app.specs.declared.packet.Packet.{Packet}
 use Rattle.nebstore_app.specs.declared.event.Event.{Event}

@@ -1,6 +1,6 @@
 -- A script is answered line by line: what stands between two lines.
 use Rattle.std.proofs.Common.{◌≡◌, ℕ, ◌+◌, ◌≤◌, ◌<◌, length, List, [], ◌∷◌, ◌++◌, append_assoc, take, suc, Option, Bool, refl, ap, sym, subst, ◌∙◌, arith, length-append}
-use Rattle.graph_model.specs.declared.answer.Answer.{Answer}
+use Rattle.first_graph.specs.declared.answer.Answer.{Answer}
 use Rattle.first_script.specs.Works.{work_of, works_from, works, op_of, ops_of}
 use Rattle.first_script.specs.Answers.{line_answers, statement_answer}
 use Rattle.first_script.specs.Print.{print, print_line}

@@ -4,21 +4,21 @@ use Rattle.std.specs.Prelude.{◌==◌, ◌&&◌, if◌then◌else◌}
 use Rattle.std.specs.Option.{option_map}
 use Rattle.std.specs.FinMap.{get, remove}
 use Rattle.std.specs.Cmp.{nat_cmp_total}
-use Rattle.graph_model.specs.Marks.{with_out_done, with_shown, with_state}
-use Rattle.graph_model.specs.Contents.{row_of, changed}
-use Rattle.graph_model.specs.Machine.{Machine}
-use Rattle.graph_model.specs.declared.change.Change.TheVariants.{Nothing, Out}
-use Rattle.graph_model.specs.declared.answer.Answer.TheVariants.{Fine}
-use Rattle.graph_model.specs.declared.call.CallState.TheVariants.{Done as DoneState}
-use Rattle.graph_model.specs.declared.graph_step.GStep.TheVariants as step
-use Rattle.graph_model.proofs.KeyLemmas.{edges_total, edges_exact, calls_total}
-use Rattle.graph_model.proofs.Updates.{same_or_apart, with_at_here, with_at_apart, altered_here, altered_apart}
-use Rattle.part_machine.specs.InHalf.{number_of, row_in}
-use Rattle.part_machine.specs.Kept.{settled}
-use Rattle.part_machine.specs.Part.{localized, settling}
-use Rattle.part_machine.specs.declared.clients.Kept.{Kept}
-use Rattle.part_keys.specs.declared.entry.PartEntry.TheVariants.{Local}
-use Rattle.part_machine.specs.declared.applied.Applied.TheVariants.{Settled, Nothing as NothingDone}
+use Rattle.first_graph.specs.Marks.{with_out_done, with_shown, with_state}
+use Rattle.first_graph.specs.Contents.{row_of, changed}
+use Rattle.first_graph.specs.Machine.{Machine}
+use Rattle.first_graph.specs.declared.change.Change.TheVariants.{Nothing, Out}
+use Rattle.first_graph.specs.declared.answer.Answer.TheVariants.{Fine}
+use Rattle.first_graph.specs.declared.call.CallState.TheVariants.{Done as DoneState}
+use Rattle.first_graph.specs.declared.graph_step.GStep.TheVariants as step
+use Rattle.first_graph.proofs.KeyLemmas.{edges_total, edges_exact, calls_total}
+use Rattle.first_graph.proofs.Updates.{same_or_apart, with_at_here, with_at_apart, altered_here, altered_apart}
+use Rattle.first_part.specs.InHalf.{number_of, row_in}
+use Rattle.first_part.specs.Kept.{settled}
+use Rattle.first_part.specs.Part.{localized, settling}
+use Rattle.first_part.specs.declared.clients.Kept.{Kept}
+use Rattle.first_part.specs.declared.entry.PartEntry.TheVariants.{Local}
+use Rattle.first_part.specs.declared.applied.Applied.TheVariants.{Settled, Nothing as NothingDone}
 use Rattle.nebstore_app.specs.declared.event.Event.TheVariants.{Deliver}
 use Rattle.nebstore_app.specs.Packets.{part_of, the_client, answer_packet}
 use Rattle.nebstore_app.specs.World.{World, replica_of, last_call}

@@ -6,27 +6,27 @@ use Rattle.std.specs.List.{list_any}
 use Rattle.std.specs.Ordering.{int_eq}
 use Rattle.std.specs.FinMap.{get}
 use Rattle.std.proofs.lemmas.Bool.Decides.{Decides-int_eq}
-use Rattle.graph_model.specs.Keys.{edge_of}
-use Rattle.graph_model.specs.Contents.{row_of}
-use Rattle.graph_model.specs.Views.{view_of, is_wanted, found_out, found_in}
-use Rattle.graph_model.specs.Machine.{Machine}
-use Rattle.graph_model.specs.declared.val.Val.{Val}
-use Rattle.graph_model.specs.declared.half.Half.{Half}
-use Rattle.graph_model.specs.declared.half.Half.TheVariants.{Absent, Here}
-use Rattle.graph_model.specs.declared.edge_id.EdgeId.{EdgeId}
-use Rattle.graph_model.specs.declared.in_key.InKey.{InKey}
-use Rattle.graph_model.specs.declared.found.Found.{Found}
-use Rattle.graph_model.specs.declared.query.Query.{Query}
-use Rattle.graph_model.specs.declared.query.Query.TheVariants.{Out, In}
-use Rattle.graph_model.specs.declared.op.Op.TheVariants.{Read as ReadOp}
-use Rattle.graph_model.specs.declared.answer.Answer.TheVariants.{Shown as ShownAnswer}
-use Rattle.graph_model.specs.declared.call.CallState.TheVariants.{Open}
-use Rattle.graph_model.proofs.KeyLemmas.{edges_total, edges_exact, ins_total, ins_exact}
-use Rattle.part_machine.specs.InHalf.{number_of, row_in}
-use Rattle.part_machine.specs.Part.{seen, found_here}
-use Rattle.part_machine.specs.declared.in_halves.InHalf.{InHalf}
-use Rattle.part_keys.specs.declared.entry.PartEntry.TheVariants.{Read}
-use Rattle.part_machine.specs.declared.applied.Applied.TheVariants.{Shown}
+use Rattle.first_graph.specs.Keys.{edge_of}
+use Rattle.first_graph.specs.Contents.{row_of}
+use Rattle.first_graph.specs.Views.{view_of, is_wanted, found_out, found_in}
+use Rattle.first_graph.specs.Machine.{Machine}
+use Rattle.first_graph.specs.declared.val.Val.{Val}
+use Rattle.first_graph.specs.declared.half.Half.{Half}
+use Rattle.first_graph.specs.declared.half.Half.TheVariants.{Absent, Here}
+use Rattle.first_graph.specs.declared.edge_id.EdgeId.{EdgeId}
+use Rattle.first_graph.specs.declared.in_key.InKey.{InKey}
+use Rattle.first_graph.specs.declared.found.Found.{Found}
+use Rattle.first_graph.specs.declared.query.Query.{Query}
+use Rattle.first_graph.specs.declared.query.Query.TheVariants.{Out, In}
+use Rattle.first_graph.specs.declared.op.Op.TheVariants.{Read as ReadOp}
+use Rattle.first_graph.specs.declared.answer.Answer.TheVariants.{Shown as ShownAnswer}
+use Rattle.first_graph.specs.declared.call.CallState.TheVariants.{Open}
+use Rattle.first_graph.proofs.KeyLemmas.{edges_total, edges_exact, ins_total, ins_exact}
+use Rattle.first_part.specs.InHalf.{number_of, row_in}
+use Rattle.first_part.specs.Part.{seen, found_here}
+use Rattle.first_part.specs.declared.in_halves.InHalf.{InHalf}
+use Rattle.first_part.specs.declared.entry.PartEntry.TheVariants.{Read}
+use Rattle.first_part.specs.declared.applied.Applied.TheVariants.{Shown}
 use Rattle.nebstore_app.specs.declared.event.Event.TheVariants.{Deliver}
 use Rattle.nebstore_app.specs.Packets.{part_of, the_client, request, answer_packet}
 use Rattle.nebstore_app.specs.World.{World, replica_of, last_call}

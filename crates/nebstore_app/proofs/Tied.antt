@@ -3,30 +3,30 @@ use Rattle.std.proofs.Common.{◌≡◌, ℕ, ℤ, ◌+◌, ◌-◌, ◌≤◌, 
 use Rattle.std.specs.Prelude.{slice_index}
 use Rattle.std.specs.FinMap.{get}
 use Rattle.std.specs.Ordering.{eq_by_cmp}
-use Rattle.graph_model.specs.Keys.{edge_cmp, in_key}
-use Rattle.graph_model.specs.Contents.{Contents, nothing, changed, after_all, contents_after}
-use Rattle.graph_model.specs.Views.{view_of}
-use Rattle.graph_model.specs.Machine.{Machine, contents_at}
-use Rattle.graph_model.specs.Run.{Run as GraphRun}
-use Rattle.graph_model.specs.declared.edge_id.EdgeId.{EdgeId}
-use Rattle.graph_model.specs.declared.in_key.InKey.{InKey}
-use Rattle.graph_model.specs.declared.call_id.CallId.{CallId}
-use Rattle.graph_model.specs.declared.change.Change.{Change}
-use Rattle.graph_model.specs.declared.call.Call.{Call}
-use Rattle.graph_model.specs.declared.call.CallState.{CallState}
-use Rattle.graph_model.specs.declared.call.CallState.TheVariants.{Open, Begun, Done}
-use Rattle.graph_model.specs.declared.half.Half.{Half}
-use Rattle.graph_model.specs.declared.op.Op.{Op}
-use Rattle.graph_model.specs.declared.op.Op.TheVariants.{Read as ReadOp}
-use Rattle.graph_model.specs.declared.query.Query.{Query}
-use Rattle.graph_model.specs.declared.found.Found.{Found}
-use Rattle.graph_model.specs.declared.answer.Answer.{Answer}
-use Rattle.graph_model.specs.declared.answer.Answer.TheVariants.{Fine, Shown}
-use Rattle.graph_model.specs.declared.graph_step.GStep.{GStep}
-use Rattle.part_machine.specs.InHalf.{number_of, row_in}
-use Rattle.part_machine.specs.Part.{Part}
-use Rattle.part_machine.specs.declared.clients.Kept.{Kept}
-use Rattle.part_machine.specs.declared.prime.PrimeRec.{PrimeRec}
+use Rattle.first_graph.specs.Keys.{edge_cmp, in_key}
+use Rattle.first_graph.specs.Contents.{Contents, nothing, changed, after_all, contents_after}
+use Rattle.first_graph.specs.Views.{view_of}
+use Rattle.first_graph.specs.Machine.{Machine, contents_at}
+use Rattle.first_graph.specs.Run.{Run as GraphRun}
+use Rattle.first_graph.specs.declared.edge_id.EdgeId.{EdgeId}
+use Rattle.first_graph.specs.declared.in_key.InKey.{InKey}
+use Rattle.first_graph.specs.declared.call_id.CallId.{CallId}
+use Rattle.first_graph.specs.declared.change.Change.{Change}
+use Rattle.first_graph.specs.declared.call.Call.{Call}
+use Rattle.first_graph.specs.declared.call.CallState.{CallState}
+use Rattle.first_graph.specs.declared.call.CallState.TheVariants.{Open, Begun, Done}
+use Rattle.first_graph.specs.declared.half.Half.{Half}
+use Rattle.first_graph.specs.declared.op.Op.{Op}
+use Rattle.first_graph.specs.declared.op.Op.TheVariants.{Read as ReadOp}
+use Rattle.first_graph.specs.declared.query.Query.{Query}
+use Rattle.first_graph.specs.declared.found.Found.{Found}
+use Rattle.first_graph.specs.declared.answer.Answer.{Answer}
+use Rattle.first_graph.specs.declared.answer.Answer.TheVariants.{Fine, Shown}
+use Rattle.first_graph.specs.declared.graph_step.GStep.{GStep}
+use Rattle.first_part.specs.InHalf.{number_of, row_in}
+use Rattle.first_part.specs.Part.{Part}
+use Rattle.first_part.specs.declared.clients.Kept.{Kept}
+use Rattle.first_part.specs.declared.prime.PrimeRec.{PrimeRec}
 use Rattle.nebstore_app.specs.declared.due.Due.{Due}
 use Rattle.nebstore_app.specs.declared.event.Event.{Event}
 use Rattle.nebstore_app.specs.declared.packet.Packet.{Packet}

@@ -1,18 +1,18 @@
 -- The trace of the graph steps of events.
 use Rattle.std.proofs.Common.{◌≡◌, ℕ, List, [], ◌∷◌, ◌++◌, Option, Some, None, Bool, true, false, refl, ap, ◌∙◌}
 use Rattle.std.specs.Prelude.{if◌then◌else◌, slice_get}
-use Rattle.graph_model.specs.Run.{trace}
-use Rattle.graph_model.specs.declared.answer.Answer.{Answer}
-use Rattle.graph_model.specs.declared.answer.Answer.TheVariants.{Fine, Skipped, Pending, Conflict, Cancelled, Unknown, Shown}
-use Rattle.graph_model.specs.declared.call_id.CallId.{CallId}
-use Rattle.graph_model.specs.declared.edge_id.EdgeId.{EdgeId}
-use Rattle.graph_model.specs.declared.graph_step.GStep.{GStep}
-use Rattle.graph_model.specs.declared.graph_step.GStep.TheVariants.{Invoke as GInvoke, Begin, Skip, Refuse, InHalf, OutHalf, Settle, Cancel, Vertex, Read as GRead, Reply as GReply}
-use Rattle.part_machine.specs.Part.{Part, is_fresh}
-use Rattle.part_keys.specs.declared.entry.PartEntry.{PartEntry}
-use Rattle.part_keys.specs.declared.entry.PartEntry.TheVariants.{Prime, Local, Double, Close, Abort, Remote, Fence, Vertex as VertexEntry, Read}
-use Rattle.part_machine.specs.declared.applied.Applied.{Applied}
-use Rattle.part_machine.specs.declared.applied.Applied.TheVariants.{Old, Again, Conflict as ConflictThen, Skipped as SkippedThen, Begun, Settled, Done, Shown as ShownThen, Nothing}
+use Rattle.first_graph.specs.Run.{trace}
+use Rattle.first_graph.specs.declared.answer.Answer.{Answer}
+use Rattle.first_graph.specs.declared.answer.Answer.TheVariants.{Fine, Skipped, Pending, Conflict, Cancelled, Unknown, Shown}
+use Rattle.first_graph.specs.declared.call_id.CallId.{CallId}
+use Rattle.first_graph.specs.declared.edge_id.EdgeId.{EdgeId}
+use Rattle.first_graph.specs.declared.graph_step.GStep.{GStep}
+use Rattle.first_graph.specs.declared.graph_step.GStep.TheVariants.{Invoke as GInvoke, Begin, Skip, Refuse, InHalf, OutHalf, Settle, Cancel, Vertex, Read as GRead, Reply as GReply}
+use Rattle.first_part.specs.Part.{Part, is_fresh}
+use Rattle.first_part.specs.declared.entry.PartEntry.{PartEntry}
+use Rattle.first_part.specs.declared.entry.PartEntry.TheVariants.{Prime, Local, Double, Close, Abort, Remote, Fence, Vertex as VertexEntry, Read}
+use Rattle.first_part.specs.declared.applied.Applied.{Applied}
+use Rattle.first_part.specs.declared.applied.Applied.TheVariants.{Old, Again, Conflict as ConflictThen, Skipped as SkippedThen, Begun, Settled, Done, Shown as ShownThen, Nothing}
 use Rattle.nebstore_app.specs.declared.packet.Packet.{Packet}
 use Rattle.nebstore_app.specs.declared.event.Event.{Event}
 use Rattle.nebstore_app.specs.declared.event.Event.TheVariants.{Invoke, Deliver, Reply}

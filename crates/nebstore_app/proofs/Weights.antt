@@ -1,15 +1,15 @@
 -- How many deliveries a packet may still bring about: each delivery leaves less.
 use Rattle.std.proofs.Common.{◌≡◌, ℕ, ◌+◌, ◌<◌, length, List, [], ◌∷◌, ◌++◌, Option, Some, None, arith}
 use Rattle.std.specs.Prelude.{option_to_list, slice_get}
-use Rattle.part_machine.specs.declared.clients.Outcome.{Outcome}
-use Rattle.part_machine.specs.declared.clients.Outcome.TheVariants.{Open, Fine, Skipped as SkippedThen, Conflict as ConflictThen}
-use Rattle.part_keys.specs.declared.entry.PartEntry.{PartEntry}
-use Rattle.part_keys.specs.declared.entry.PartEntry.TheVariants.{Prime, Local, Double, Close, Abort, Remote, Fence, Vertex, Read}
-use Rattle.part_machine.specs.declared.applied.Applied.{Applied}
-use Rattle.part_machine.specs.declared.applied.Applied.TheVariants.{Again, Conflict, Skipped, Begun, Settled, Done, Shown}
-use Rattle.graph_model.specs.declared.call_id.CallId.{CallId}
-use Rattle.graph_model.specs.declared.edge_id.EdgeId.{EdgeId}
-use Rattle.graph_model.specs.declared.half.Half.{Half}
+use Rattle.first_part.specs.declared.clients.Outcome.{Outcome}
+use Rattle.first_part.specs.declared.clients.Outcome.TheVariants.{Open, Fine, Skipped as SkippedThen, Conflict as ConflictThen}
+use Rattle.first_part.specs.declared.entry.PartEntry.{PartEntry}
+use Rattle.first_part.specs.declared.entry.PartEntry.TheVariants.{Prime, Local, Double, Close, Abort, Remote, Fence, Vertex, Read}
+use Rattle.first_part.specs.declared.applied.Applied.{Applied}
+use Rattle.first_part.specs.declared.applied.Applied.TheVariants.{Again, Conflict, Skipped, Begun, Settled, Done, Shown}
+use Rattle.first_graph.specs.declared.call_id.CallId.{CallId}
+use Rattle.first_graph.specs.declared.edge_id.EdgeId.{EdgeId}
+use Rattle.first_graph.specs.declared.half.Half.{Half}
 use Rattle.std.specs.Option.{option_map}
 use Rattle.nebstore_app.specs.declared.packet.Packet.{Packet}
 use Rattle.nebstore_app.specs.declared.packet.Place.{Place}

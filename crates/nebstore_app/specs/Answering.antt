@@ -1,8 +1,8 @@
 -- How a script is answered, line by line.
 use Rattle.std.specs.Prelude.{◌≡◌, ℕ, ◌+◌, ◌≤◌, List, [], ◌∷◌, ◌++◌, length, take, Option, Bool, true, false}
-use Rattle.graph_model.specs.declared.answer.Answer.{Answer}
+use Rattle.first_graph.specs.declared.answer.Answer.{Answer}
 use Rattle.first_script.specs.Lines.{lines, whole_lines}
-use Rattle.first_script.specs.Works.{works, ops_of}
+use Rattle.first_script.specs.Works.{ops_of}
 use Rattle.first_script.specs.Answers.{line_answers}
 use Rattle.first_script.specs.Print.{print}
 use Rattle.first_script.specs.declared.line_answer.LineAnswer.{LineAnswer}
@@ -20,11 +20,6 @@ most_bytes = 16777216
 abbrev pub lines_by : Bool → List ℕ → List (List ℕ)
 lines_by true bytes = whole_lines bytes
 lines_by false bytes = lines bytes
-
--- the script that was read: of one that was cut off, only the first bytes count
-abbrev pub script_of : Bool → List ℕ → List Work
-script_of true read = works (whole_lines (take most_bytes read))
-script_of false read = works (lines read)
 
 -- all calls of these works were made, in order, each once, and answered so
 pub record IsAnswered (script : List Work) (events : List Event) (answers : List Answer) : Type 0 where

@@ -1,8 +1,8 @@
 -- The calls and replies among events.
 use Rattle.std.specs.Prelude.{◌≡◌, ℕ, ◌+◌, List, [], ◌∷◌, ◌++◌, take, false}
-use Rattle.graph_model.specs.declared.answer.Answer.{Answer}
-use Rattle.graph_model.specs.declared.call_id.CallId.{CallId}
-use Rattle.graph_model.specs.declared.op.Op.{Op}
+use Rattle.first_graph.specs.declared.answer.Answer.{Answer}
+use Rattle.first_graph.specs.declared.call_id.CallId.{CallId}
+use Rattle.first_graph.specs.declared.op.Op.{Op}
 use Rattle.nebstore_app.specs.declared.event.Event.{Event}
 use Rattle.nebstore_app.specs.declared.event.Event.TheVariants.{Invoke, Deliver, Reply}
 use Rattle.nebstore_app.specs.Packets.{the_client}

@@ -7,4 +7,5 @@ pub mod Calls
 pub mod Answering
 pub mod Stopped
 pub mod Steps
+pub mod Outcome
 pub mod Report

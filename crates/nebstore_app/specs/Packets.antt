@@ -1,21 +1,21 @@
 -- Where a packet leads, and what it brings.
 use Rattle.std.specs.Prelude.{◌≡◌, ℕ, ℤ, Option, None, Some, true, false}
 use Rattle.std.specs.Option.{option_map}
-use Rattle.part_keys.specs.Routing.{part_number}
-use Rattle.graph_model.specs.declared.call_id.CallId.{CallId}
-use Rattle.graph_model.specs.declared.half.Half.{Half}
-use Rattle.graph_model.specs.declared.half.Half.TheVariants.{Here}
-use Rattle.graph_model.specs.declared.query.Query.TheVariants.{Tag, Edge, Out, In, Both}
-use Rattle.graph_model.specs.declared.op.Op.{Op}
-use Rattle.graph_model.specs.declared.op.Op.TheVariants.{PutEdge, DelEdge, PutVertex, DelVertex, Read as ReadOp}
-use Rattle.graph_model.specs.declared.answer.Answer.{Answer}
-use Rattle.graph_model.specs.declared.answer.Answer.TheVariants.{Fine, Skipped as SkippedAnswer, Conflict as ConflictAnswer, Shown as ShownAnswer}
-use Rattle.part_machine.specs.declared.clients.Outcome.{Outcome}
-use Rattle.part_machine.specs.declared.clients.Outcome.TheVariants.{Open, Fine as FineThen, Skipped as SkippedThen, Conflict as ConflictThen}
-use Rattle.part_keys.specs.declared.entry.PartEntry.{PartEntry}
-use Rattle.part_keys.specs.declared.entry.PartEntry.TheVariants.{Prime, Local, Double, Close, Abort, Remote as RemoteEntry, Fence, Vertex, Read}
-use Rattle.part_machine.specs.declared.applied.Applied.{Applied}
-use Rattle.part_machine.specs.declared.applied.Applied.TheVariants.{Again, Conflict, Skipped, Begun, Settled, Done as DoneThen, Shown}
+use Rattle.first_part.specs.Routing.{part_number}
+use Rattle.first_graph.specs.declared.call_id.CallId.{CallId}
+use Rattle.first_graph.specs.declared.half.Half.{Half}
+use Rattle.first_graph.specs.declared.half.Half.TheVariants.{Here}
+use Rattle.first_graph.specs.declared.query.Query.TheVariants.{Tag, Edge, Out, In, Both}
+use Rattle.first_graph.specs.declared.op.Op.{Op}
+use Rattle.first_graph.specs.declared.op.Op.TheVariants.{PutEdge, DelEdge, PutVertex, DelVertex, Read as ReadOp}
+use Rattle.first_graph.specs.declared.answer.Answer.{Answer}
+use Rattle.first_graph.specs.declared.answer.Answer.TheVariants.{Fine, Skipped as SkippedAnswer, Conflict as ConflictAnswer, Shown as ShownAnswer}
+use Rattle.first_part.specs.declared.clients.Outcome.{Outcome}
+use Rattle.first_part.specs.declared.clients.Outcome.TheVariants.{Open, Fine as FineThen, Skipped as SkippedThen, Conflict as ConflictThen}
+use Rattle.first_part.specs.declared.entry.PartEntry.{PartEntry}
+use Rattle.first_part.specs.declared.entry.PartEntry.TheVariants.{Prime, Local, Double, Close, Abort, Remote as RemoteEntry, Fence, Vertex, Read}
+use Rattle.first_part.specs.declared.applied.Applied.{Applied}
+use Rattle.first_part.specs.declared.applied.Applied.TheVariants.{Again, Conflict, Skipped, Begun, Settled, Done as DoneThen, Shown}
 use Rattle.nebstore_app.specs.declared.packet.Place.{Place}
 use Rattle.nebstore_app.specs.declared.packet.Place.TheVariants.{Client, Part}
 use Rattle.nebstore_app.specs.declared.packet.Body.{Body}

@@ -1,9 +1,9 @@
 -- The one replica of a part.
 use Rattle.std.specs.Prelude.{ℕ, ◌+◌, List, [], ◌∷◌, ◌++◌, length, refl}
 use Rattle.std.specs.Coded.{Coded, code_by, coded×}
-use Rattle.part_keys.specs.declared.entry.PartEntry.{PartEntry}
-use Rattle.part_machine.specs.declared.applied.Applied.{Applied}
-use Rattle.part_machine.specs.Part.{Part, start, applied}
+use Rattle.first_part.specs.declared.entry.PartEntry.{PartEntry}
+use Rattle.first_part.specs.declared.applied.Applied.{Applied}
+use Rattle.first_part.specs.Part.{Part, start, applied}
 
 -- the part's machine, and the entries that were applied to it, which count as decided
 pub record Replica : Type 0 where

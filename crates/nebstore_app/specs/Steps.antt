@@ -1,17 +1,17 @@
 -- The graph steps of a journal.
 use Rattle.std.specs.Prelude.{◌≡◌, ℕ, ◌+◌, ◌-◌, List, [], ◌∷◌, ◌++◌, length, replicate, slice_index, slice_get, Option, None, Some, if◌then◌else◌}
-use Rattle.graph_model.specs.declared.call_id.CallId.{CallId}
-use Rattle.graph_model.specs.declared.answer.Answer.{Answer}
-use Rattle.graph_model.specs.declared.answer.Answer.TheVariants.{Fine, Skipped as SkippedAnswer, Pending, Conflict as ConflictAnswer, Cancelled, Unknown, Shown as ShownAnswer}
-use Rattle.graph_model.specs.declared.graph_step.GStep.{GStep}
-use Rattle.graph_model.specs.declared.graph_step.GStep.TheVariants as step
-use Rattle.graph_model.specs.Machine.{Machine, start as nothing_yet}
-use Rattle.graph_model.specs.Run.{Run as GraphRun, trace}
-use Rattle.part_keys.specs.declared.entry.PartEntry.{PartEntry}
-use Rattle.part_keys.specs.declared.entry.PartEntry.TheVariants.{Prime, Local, Double, Close, Abort, Remote, Fence, Vertex, Read}
-use Rattle.part_machine.specs.declared.applied.Applied.{Applied}
-use Rattle.part_machine.specs.declared.applied.Applied.TheVariants.{Conflict, Skipped, Begun, Settled}
-use Rattle.part_machine.specs.Part.{Part, is_fresh}
+use Rattle.first_graph.specs.declared.call_id.CallId.{CallId}
+use Rattle.first_graph.specs.declared.answer.Answer.{Answer}
+use Rattle.first_graph.specs.declared.answer.Answer.TheVariants.{Fine, Skipped as SkippedAnswer, Pending, Conflict as ConflictAnswer, Cancelled, Unknown, Shown as ShownAnswer}
+use Rattle.first_graph.specs.declared.graph_step.GStep.{GStep}
+use Rattle.first_graph.specs.declared.graph_step.GStep.TheVariants as step
+use Rattle.first_graph.specs.Machine.{Machine, start as nothing_yet}
+use Rattle.first_graph.specs.Run.{Run as GraphRun, trace}
+use Rattle.first_part.specs.declared.entry.PartEntry.{PartEntry}
+use Rattle.first_part.specs.declared.entry.PartEntry.TheVariants.{Prime, Local, Double, Close, Abort, Remote, Fence, Vertex, Read}
+use Rattle.first_part.specs.declared.applied.Applied.{Applied}
+use Rattle.first_part.specs.declared.applied.Applied.TheVariants.{Conflict, Skipped, Begun, Settled}
+use Rattle.first_part.specs.Part.{Part, is_fresh}
 use Rattle.nebstore_app.specs.declared.due.Due.{Due}
 use Rattle.nebstore_app.specs.declared.event.Event.{Event}
 use Rattle.nebstore_app.specs.declared.event.Event.TheVariants.{Invoke, Deliver, Reply}

@@ -1,9 +1,9 @@
 -- The world of this stage: two parts of one replica each, one client, and the packets between them.
 use Rattle.std.specs.Prelude.{◌≡◌, ℕ, ◌+◌, ◌<◌, ◌==◌, List, [], ◌∷◌, ◌++◌, length, drop, slice_get, Option, None, Some, IsSome, Bool, true, false, not, ◌&&◌, is_some, option_to_list, if◌then◌else◌}
 use Rattle.std.specs.Option.{option_map}
-use Rattle.graph_model.specs.declared.call_id.CallId.{CallId}
-use Rattle.graph_model.specs.declared.answer.Answer.{Answer}
-use Rattle.part_keys.specs.declared.entry.PartEntry.{PartEntry}
+use Rattle.first_graph.specs.declared.call_id.CallId.{CallId}
+use Rattle.first_graph.specs.declared.answer.Answer.{Answer}
+use Rattle.first_part.specs.declared.entry.PartEntry.{PartEntry}
 use Rattle.nebstore_app.specs.declared.packet.Packet.{Packet}
 use Rattle.nebstore_app.specs.declared.packet.Place.{Place}
 use Rattle.nebstore_app.specs.declared.due.Due.{Due}

@@ -1,5 +1,5 @@
 //! The answer that a call is due.
-use graph_model::Answer;
+use first_graph::Answer;
 
 /// The answer that ended the open call, and the number of the packet that brought it.
 #[derive(Drop)]

@@ -1,5 +1,5 @@
 //! What happens in a run.
-use graph_model::{Answer, CallId, Op};
+use first_graph::{Answer, CallId, Op};
 use lists::Listed;
 
 /// What happens in a run.

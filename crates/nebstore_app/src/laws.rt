@@ -5,7 +5,7 @@ ghost use Rattle.nebstore_app.specs.World.{World, start, Run};
 ghost use Rattle.nebstore_app.specs.Steps.{IsGraphRun};
 ghost use Rattle.nebstore_app.specs.Report.{IsLawful};
 
-use graph_model::laws::{
+use first_graph::laws::{
     acknowledged_never_cancelled, acknowledged_stays_visible, equal_halves, once_each,
 };
 

@@ -2,9 +2,9 @@
 ghost use Rattle.std.specs.Prelude.{◌≡◌, IfOk};
 ghost use Rattle.nebstore_app.specs.Packets.{request_of, request};
 
-use graph_model::{Answer, CallId, EdgeId, Half, Op, Query, Vid};
+use first_graph::{Answer, CallId, EdgeId, Half, Op, Query, Vid};
+use first_part::{PartEntry, part_of};
 use lists::{Listed, NoMemory};
-use part_keys::{PartEntry, part_of};
 use std::alloc::Global;
 
 /// How many parts there are.

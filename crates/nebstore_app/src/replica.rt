@@ -3,10 +3,9 @@ ghost use Rattle.std.specs.Prelude.{◌≡◌, IfOk};
 ghost use Rattle.nebstore_app.specs.Packets.{sent, answer_packet, kept_answer, IsSpareOf};
 
 use crate::packet::{Body, PARTS, Packet, Place};
-use graph_model::{Answer, CallId, Half};
+use first_graph::{Answer, CallId, Half};
+use first_part::{Applied, Machine, Outcome, PartEntry, part_of};
 use lists::NoMemory;
-use part_keys::{PartEntry, part_of};
-use part_machine::{Applied, Machine, Outcome};
 use std::alloc::Global;
 use std::marker::Model;
 
@@ -23,8 +22,8 @@ pub(crate) struct Replica {
 impl Model for Replica {
     ghost use Rattle.std.specs.Coded.{coded_list};
     ghost use Rattle.nebstore_app.specs.Replica.{Replica, replica_code};
-    ghost use Rattle.part_machine.specs.contracts.machine.Machine as machines;
-    ghost use Rattle.part_keys.specs.contracts.entry.PartEntry as entry;
+    ghost use Rattle.first_part.specs.contracts.machine.Machine as machines;
+    ghost use Rattle.first_part.specs.contracts.entry.PartEntry as entry;
 
     ghost Value = { Replica };
 

@@ -1,6 +1,6 @@
 //! A script is answered, line by line.
 ghost use Rattle.std.specs.Prelude.{◌≡◌, ◌≤◌, ◌<◌, ◌+◌, ◌∷◌, [], List, IfOk, IfErr, OnOk, OnErr, length, IfSome, IfNone, false};
-ghost use Rattle.graph_model.specs.declared.answer.Answer.{Answer};
+ghost use Rattle.first_graph.specs.declared.answer.Answer.{Answer};
 ghost use Rattle.first_script.specs.Answers.{line_answers};
 ghost use Rattle.first_script.specs.Works.{works, op_of};
 ghost use Rattle.first_script.specs.Print.{print, print_line};

@@ -7,7 +7,7 @@ use crate::event::Event;
 use crate::journal::Journal;
 use crate::mail::Mail;
 use crate::replica::Replica;
-use graph_model::{Answer, CallId, Op};
+use first_graph::{Answer, CallId, Op};
 use lists::{Listed, NoMemory};
 use std::alloc::Global;
 use std::marker::Model;
@@ -47,7 +47,7 @@ impl World {
     ghost use Rattle.std.specs.Prelude.{◌≡◌, ◌<◌, ◌++◌, false, length, IsSome, IfOk, OnOk, OnErr, IsTrue, ◌↔◌, Some};
     ghost use Rattle.std.specs.Option.{option_copied};
     ghost use Rattle.nebstore_app.specs.Packets.{request_of};
-    ghost use Rattle.graph_model.specs.declared.call_id.CallId.{CallId};
+    ghost use Rattle.first_graph.specs.declared.call_id.CallId.{CallId};
     ghost use Rattle.nebstore_app.specs.Calls.{IsQuiet, HasCalled, HasStopped};
     ghost use Rattle.nebstore_app.specs.World.{start, after, next_call, last_call, answer_due, IsReached};
     ghost use Rattle.nebstore_app.specs.declared.event.Event.TheVariants.{Invoke, Deliver, Reply};

@@ -6,7 +6,7 @@
 //! over any source and sink can't make a fault up, nor pass one over.
 //!
 //! The contract: [`read_up_to`] gives the bytes of a source in order, none lost, to its end or to one byte more
-//! than a limit; [`write_all`] writes a slice whole, or stops at the first fault with a front of it written.
+//! than a limit; [`write_all`] writes a slice whole, or a front of it where the sink counted a fault.
 //!
 //! [`MemSource`] and [`MemSink`] move bytes in memory, in pieces of given sizes, and fail at given calls.
 //! [`StdSource`] and [`StdSink`] stand over std's readers and writers: what these move is trusted, not proved.

@@ -6,7 +6,7 @@ use crate::failed::Failed;
 use crate::sink::Sink;
 
 /// Writes all of `from`, by as many writes as the sink needs, and by none where there is nothing to write.
-/// After a fault some front of `from` was written, and nothing was tried again.
+/// Refused where the sink counted a fault, and then a front of `from` was written.
 #[tactic(auto, using(crate::proofs::Told::appends_on))]
 pub fn write_all<K: Sink>(sink: &mut K, from: &[u8]) -> Result<(), Failed>
     ensures written { OnOk result (Appends (K.written sink.old) from.now (K.written sink.new)) }

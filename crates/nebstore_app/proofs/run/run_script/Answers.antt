@@ -7,13 +7,13 @@ use Rattle.nebstore_app.proofs.run.run_script.Goals as goal
 
 pub returns-clause-journal : goal.returns-clause-journal
 returns-clause-journal g c =
-    let w = c.run_words-status.new.world in
-    (w, subst (λ events. Run start events w) (sym c.into_journal.ensures.events) c.run_words-status.ensures.reached, c.into_journal.ensures.packets)
+    let w = c.run_words-outcome.new.world in
+    (w, subst (λ events. Run start events w) (sym c.into_journal.ensures.events) c.run_words-outcome.ensures.reached, c.into_journal.ensures.packets)
 
 pub returns-clause-graph : goal.returns-clause-graph
 returns-clause-graph g c =
-    let w = c.run_words-status.new.world in
-    let f = refines w.events w c.run_words-status.ensures.reached in
+    let w = c.run_words-outcome.new.world in
+    let f = refines w.events w c.run_words-outcome.ensures.reached in
     subst IsGraphRun (sym c.into_journal.ensures.events) (f.h, f.goes, same_trace start at_start w.events)
 
 pub returns-clause-laws : goal.returns-clause-laws

@@ -1,5 +1,5 @@
 use Rattle.std.proofs.Common.{[], ◌∷◌, List, sym, subst}
-use Rattle.graph_model.specs.declared.answer.Answer.{Answer}
+use Rattle.first_graph.specs.declared.answer.Answer.{Answer}
 use Rattle.nebstore_app.specs.Answering.{AnswersLine, LeavesLine}
 use Rattle.nebstore_app.proofs.Results.{if_ok, at_ok, on_err}
 use Rattle.nebstore_app.proofs.Answered.{answered_call, left_called, left_stopped}

@@ -1,0 +1,9 @@
+use Rattle.std.proofs.Common.{ap, sym, ◌∙◌}
+use Rattle.std.specs.Option.{is_some}
+use Rattle.std.specs.FinMap.{get}
+use Rattle.first_graph.proofs.MapLemmas.{get_made}
+use Rattle.first_graph.proofs.KeyLemmas.{calls_total}
+use Rattle.first_graph.proofs.book.Book.has.Goals as goal
+
+pub returns : goal.returns
+returns c = c.contains_key.ensures ∙ ap is_some (sym (get_made calls_total c.self.inside.kept.entries c.args.key)) ∙ ap (λ m. is_some (get m c.args.key)) c.self.view_is

@@ -1,0 +1,9 @@
+use Rattle.std.proofs.Common.{ap, sym, ◌∙◌}
+use Rattle.std.specs.Option.{is_some}
+use Rattle.std.specs.FinMap.{get}
+use Rattle.first_graph.proofs.MapLemmas.{get_made}
+use Rattle.first_graph.proofs.KeyLemmas.{edges_total}
+use Rattle.first_graph.proofs.shelf.Shelf.has_out.Goals as goal
+
+pub returns : goal.returns
+returns c = c.contains_key.ensures ∙ ap is_some (sym (get_made edges_total c.self.inside.out.entries c.args.e)) ∙ ap (λ m. is_some (get m.out c.args.e)) c.self.view_is

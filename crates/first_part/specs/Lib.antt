@@ -1,0 +1,5 @@
+pub mod Routing
+pub mod Kept
+pub mod InHalf
+pub mod Part
+pub mod PartCode

@@ -1,8 +1,0 @@
-use Rattle.std.proofs.Common.{ap, sym, ◌∙◌}
-use Rattle.std.specs.FinMap.{get}
-use Rattle.graph_model.proofs.MapLemmas.{get_made}
-use Rattle.graph_model.proofs.KeyLemmas.{edges_total}
-use Rattle.graph_model.proofs.chains.Chains.get.Goals as goal
-
-pub returns : goal.returns
-returns c = c.get.ensures.value ∙ sym (get_made edges_total c.self.inside.kept.entries c.args.key) ∙ ap (λ m. get m c.args.key) c.self.view_is

@@ -1,4 +1,0 @@
-pub mod Kept
-pub mod InHalf
-pub mod Part
-pub mod PartCode
