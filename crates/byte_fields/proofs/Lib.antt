@@ -4,3 +4,6 @@ pub mod Numbers
 pub mod FieldLaws
 pub mod Within
 pub mod Filling
+pub mod Formats
+pub mod Answered
+pub mod Orders

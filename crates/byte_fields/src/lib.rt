@@ -13,15 +13,17 @@
 //! Below it are `lists` and `byteorder`; above it are the records of the part file, keys, entries and packets.
 #![tactic(auto)]
 
+mod frame;
 mod misfit;
 mod reading;
 mod refused;
 mod writer;
 
+pub use frame::{CLOSED_GATE, Frame, OPEN_GATE};
 pub use misfit::Misfit;
 pub use reading::{
-    read_byte, read_flag, read_i32, read_i64, read_id, read_ids, read_run, read_u16, read_u32,
-    read_u64,
+    read_byte, read_count, read_flag, read_i32, read_i64, read_id, read_ids, read_run, read_u16,
+    read_u32, read_u64,
 };
 pub use refused::ReadRefused;
 pub use writer::Writer;

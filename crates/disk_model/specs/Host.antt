@@ -1,14 +1,15 @@
 -- What a disk of either kind tells: that of its kind.
 use Rattle.std.specs.Prelude.{◌≡◌, ◌≤◌, ◌<◌, ◌^◌, ℕ, List, length, Option, Some, None}
 use Rattle.std.proofs.lemmas.Option.{none-some}
-use Rattle.disk_model.specs.Memory.{steps_of, reads_of, LeftOf, clock_of, SinceOf, calls_room, bytes_room}
+use Rattle.disk_model.specs.Files.{file_faults}
+use Rattle.disk_model.specs.Memory.{faults_of, steps_of, reads_of, LeftOf, clock_of, SinceOf, calls_room, bytes_room}
 use Rattle.disk_model.specs.ReplayLaws.{shown_is_image, shown_fits, counts_left, only_left}
 use Rattle.disk_model.specs.declared.host_disk.HostDisk.{HostDisk}
 use Rattle.disk_model.specs.declared.host_disk.HostDisk.TheVariants.{Memory, File}
 
 abbrev pub host_faults : {F : Type 0} → HostDisk F → ℕ
-host_faults (Memory d) = d.faults.count
-host_faults (File d) = d.faults.count
+host_faults (Memory d) = faults_of d
+host_faults (File d) = file_faults d
 
 abbrev pub host_reads : {F : Type 0} → HostDisk F → Option (List ℕ)
 host_reads (Memory d) = reads_of d

@@ -1,4 +1,5 @@
 pub mod Disk
+pub mod Files
 pub mod Host
 pub mod HostRack
 pub mod Kept

@@ -6,14 +6,35 @@ use Rattle.disk_model.specs.declared.pick.Pick.{Pick}
 use Rattle.disk_model.specs.declared.pick.Pick.TheVariants.{Synced, Read, Torn}
 use Rattle.disk_model.specs.declared.call.Made.{Made}
 use Rattle.disk_model.specs.declared.mem_disk.MemDisk.{MemDisk}
+use Rattle.disk_model.specs.declared.plan.Plan.{Plan}
 
 -- the calls that were made of it, with their bytes, the newest first
 abbrev pub steps_of : MemDisk → List (Made × List ℕ)
 steps_of disk = history disk.calls.items disk.stored.items
 
+-- the file that it began with
+abbrev pub first_of : MemDisk → List ℕ
+first_of disk = disk.first
+
+-- the file now
+abbrev pub file_of : MemDisk → List ℕ
+file_of disk = disk.bytes.items
+
+-- its writes, cuts and syncs, the oldest first
+abbrev pub calls_of : MemDisk → List Made
+calls_of disk = disk.calls.items
+
+-- which of its calls fail
+abbrev pub plan_of : MemDisk → Plan
+plan_of disk = disk.plan
+
+-- how many faults it had
+abbrev pub faults_of : MemDisk → ℕ
+faults_of disk = disk.faults.count
+
 -- what a read gives
 abbrev pub reads_of : MemDisk → Option (List ℕ)
-reads_of disk = Some disk.bytes.items
+reads_of disk = Some (file_of disk)
 
 -- the images that a crash now may leave
 abbrev pub LeftOf : MemDisk → List ℕ → Type 0

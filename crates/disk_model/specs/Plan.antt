@@ -1,5 +1,5 @@
 -- Which calls of a disk in memory fail, by the number of the call.
-use Rattle.std.specs.Prelude.{ℕ, ◌+◌, ◌-◌, ◌^◌, Bool, min, not, nat_eq, nat_lt, ◌&&◌, Option, Some, None, true}
+use Rattle.std.specs.Prelude.{ℕ, ◌+◌, ◌-◌, ◌^◌, Bool, List, [], min, not, nat_eq, nat_lt, ◌&&◌, Option, Some, None, true}
 use Rattle.std.specs.List.{list_any}
 use Rattle.disk_model.specs.declared.plan.Plan.{Plan}
 
@@ -7,6 +7,18 @@ use Rattle.disk_model.specs.declared.plan.Plan.{Plan}
 abbrev pub within : ℕ → Option ℕ → Bool
 within number None = true
 within number (Some fuse) = nat_lt number fuse
+
+-- before the first call: a fuse lets so many calls pass, and the calls of these numbers fail
+abbrev pub plan_with : Option ℕ → List ℕ → Plan
+plan_with fuse failing = record { fuse = fuse; failing = failing; number = 0 }
+
+-- every call passes
+abbrev pub no_plan : Plan
+no_plan = plan_with None []
+
+-- the plan of a disk that was opened again: without a fuse, and the numbers of its calls go on
+abbrev pub without_fuse : Plan → Plan
+without_fuse plan = record plan { fuse = None }
 
 -- the next call passes
 abbrev pub passes : Plan → Bool

@@ -46,7 +46,9 @@ fn read_front<F: FileExt>(file: &F, at: u64, into: &mut [u8]) -> Result<usize, F
 }
 
 impl<F: OpenFile + FileExt> Disk for FileDisk<F> {
-    ghost faults = { λ d. d.faults.count };
+    ghost use Rattle.disk_model.specs.Files.{file_faults};
+
+    ghost faults = { file_faults };
 
     ghost reads = { λ _. None };
 

@@ -20,10 +20,12 @@ pub struct FileRack<R> {
 }
 
 impl<R: Files> FileRack<R> {
+    ghost use Rattle.disk_model.specs.Files.{folder_faults, folder_back};
+
     /// A rack over this folder of these files. The folder has to be there.
     pub fn new(files: R, folder: String) -> FileRack<R>
-        ensures faults { result.faults.count ≡ 0 }
-        ensures back { result.back.count ≡ 0 }
+        ensures faults { folder_faults result ≡ 0 }
+        ensures back { folder_back result ≡ 0 }
     {
         FileRack {
             files,
@@ -48,15 +50,17 @@ impl<R: Files> Rack for FileRack<R>
 where
     R::File: FileExt,
 {
+    ghost use Rattle.disk_model.specs.Files.{folder_faults, folder_back, folder_rooms};
+
     type D = FileDisk<R::File>;
 
-    ghost faults = { λ r. r.faults.count };
+    ghost faults = { folder_faults };
 
-    ghost back = { λ r. r.back.count };
+    ghost back = { folder_back };
 
     ghost kept = { λ _. None };
 
-    ghost rooms = { λ r. r.rooms };
+    ghost rooms = { folder_rooms };
 
     fn fresh(&mut self, alloc: Global, name: DiskName) -> Result<Self::D, RackRefused> {
         let Some(rooms) = self.rooms.checked_add(1) else {

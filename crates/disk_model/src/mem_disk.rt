@@ -36,16 +36,17 @@ pub struct MemDisk {
 }
 
 impl MemDisk {
-    ghost use Rattle.disk_model.specs.Memory.{steps_of, picked};
+    ghost use Rattle.disk_model.specs.Memory.{calls_of, first_of, file_of, plan_of, faults_of, steps_of, picked};
+    ghost use Rattle.disk_model.specs.Plan.{without_fuse};
 
     /// A file of these bytes, all of them on the disk, whose next calls fail as planned. Refused for want of memory
     /// alone.
     pub fn new(alloc: Global, first: Bytes, plan: Plan) -> Result<MemDisk, NoMemory>
-        ensures reads { IfOk result (λ disk. disk.bytes.items ≡ first) }
-        ensures first { IfOk result (λ disk. disk.first ≡ first) }
+        ensures reads { IfOk result (λ disk. file_of disk ≡ first) }
+        ensures first { IfOk result (λ disk. first_of disk ≡ first) }
         ensures steps { IfOk result (λ disk. steps_of disk ≡ []) }
-        ensures plan { IfOk result (λ disk. disk.plan ≡ plan) }
-        ensures faults { IfOk result (λ disk. disk.faults.count ≡ 0) }
+        ensures plan { IfOk result (λ disk. plan_of disk ≡ plan) }
+        ensures faults { IfOk result (λ disk. faults_of disk ≡ 0) }
     {
         Ok(MemDisk {
             bytes: Vec::from_slice(alloc, first.as_slice())?,
@@ -61,11 +62,11 @@ impl MemDisk {
 
     /// An empty file, whose next calls fail as planned.
     pub fn empty(alloc: Global, plan: Plan) -> MemDisk
-        ensures reads { result.bytes.items ≡ [] }
-        ensures first { result.first ≡ [] }
+        ensures reads { file_of result ≡ [] }
+        ensures first { first_of result ≡ [] }
         ensures steps { steps_of result ≡ [] }
-        ensures plan { result.plan ≡ plan }
-        ensures faults { result.faults.count ≡ 0 }
+        ensures plan { plan_of result ≡ plan }
+        ensures faults { faults_of result ≡ 0 }
     {
         MemDisk {
             first: Listed::new(alloc),
@@ -82,12 +83,12 @@ impl MemDisk {
     /// The disk after a crash that left what was picked. It has no fuse, and the numbers of its calls go on, as its
     /// faults do. For want of memory it comes back as it was.
     pub(crate) fn reopened(self, alloc: Global, pick: &Pick) -> Result<MemDisk, MemDisk>
-        ensures image { IfOk result (λ disk. Left self.first (steps_of self) disk.first) }
-        ensures picked { IfOk result (λ disk. disk.first ≡ picked pick.now self) }
-        ensures reads { IfOk result (λ disk. disk.bytes.items ≡ disk.first) }
+        ensures image { IfOk result (λ disk. Left (first_of self) (steps_of self) (first_of disk)) }
+        ensures picked { IfOk result (λ disk. first_of disk ≡ picked pick.now self) }
+        ensures reads { IfOk result (λ disk. file_of disk ≡ first_of disk) }
         ensures steps { IfOk result (λ disk. steps_of disk ≡ []) }
-        ensures plan { IfOk result (λ disk. disk.plan ≡ record self.plan { fuse = None }) }
-        ensures faults { IfOk result (λ disk. disk.faults.count ≡ self.faults.count) }
+        ensures plan { IfOk result (λ disk. plan_of disk ≡ without_fuse (plan_of self)) }
+        ensures faults { IfOk result (λ disk. faults_of disk ≡ faults_of self) }
         ensures err { IfErr result (λ disk. disk ≡ self) }
     {
         let Ok(first) = self.image(alloc, pick) else {
@@ -113,14 +114,14 @@ impl MemDisk {
 
     /// What a read gives.
     pub fn bytes(&self) -> &[u8]
-        ensures { result.now ≡ self.now.bytes.items }
+        ensures { result.now ≡ file_of self.now }
     {
         self.bytes.as_slice()
     }
 
     /// What was synced.
     pub fn synced(&self) -> &[u8]
-        ensures { result.now ≡ synced_after self.now.first (steps_of self.now) }
+        ensures { result.now ≡ synced_after (first_of self.now) (steps_of self.now) }
     {
         self.synced.as_slice()
     }
@@ -141,19 +142,19 @@ impl MemDisk {
 
     /// The writes, cuts and syncs that were made, the oldest first.
     pub fn calls(&self) -> &[Made]
-        ensures { result.now ≡ self.now.calls.items }
+        ensures { result.now ≡ calls_of self.now }
     {
         self.calls.as_slice()
     }
 }
 
 impl Disk for MemDisk {
-    ghost use Rattle.disk_model.specs.Memory.{steps_of, reads_of, LeftOf, clock_of, SinceOf, calls_room, bytes_room};
+    ghost use Rattle.disk_model.specs.Memory.{first_of, plan_of, faults_of, steps_of, reads_of, LeftOf, clock_of, SinceOf, calls_room, bytes_room};
     ghost use Rattle.disk_model.specs.Plan.{passes, called};
     ghost use Rattle.disk_model.specs.declared.call.Call.TheVariants.{Write, Cut, Sync};
     ghost use Rattle.disk_model.specs.ReplayLaws.{shown_is_image, shown_fits, counts_left, only_left};
 
-    ghost faults = { λ m. m.faults.count };
+    ghost faults = { faults_of };
 
     ghost reads = { reads_of };
 
@@ -192,13 +193,13 @@ impl Disk for MemDisk {
         ensures reads { reads_of self.new ≡ reads_of self.old }
         ensures images { SameImages (LeftOf self.old) (LeftOf self.new) }
         ensures time { Elapses (clock_of self.old) (clock_of self.new) (SinceOf self.old) (SinceOf self.new) (LeftOf self.new) }
-        ensures cause { Counts self.old.faults.count self.new.faults.count result }
+        ensures cause { Counts (faults_of self.old) (faults_of self.new) result }
 
         // Beside what each disk promises.
         ensures noted { steps_of self.new ≡ steps_of self.old }
-        ensures first { self.new.first ≡ self.old.first }
-        ensures exact { is_ok result ≡ passes self.old.plan }
-        ensures called { self.new.plan ≡ called self.old.plan }
+        ensures first { first_of self.new ≡ first_of self.old }
+        ensures exact { is_ok result ≡ passes (plan_of self.old) }
+        ensures called { plan_of self.new ≡ called (plan_of self.old) }
     {
         if !self.plan.next() {
             self.faults.rise();
@@ -215,13 +216,13 @@ impl Disk for MemDisk {
         ensures reads { reads_of self.new ≡ reads_of self.old }
         ensures images { SameImages (LeftOf self.old) (LeftOf self.new) }
         ensures time { Elapses (clock_of self.old) (clock_of self.new) (SinceOf self.old) (SinceOf self.new) (LeftOf self.new) }
-        ensures cause { Counts self.old.faults.count self.new.faults.count result }
+        ensures cause { Counts (faults_of self.old) (faults_of self.new) result }
 
         // Beside what each disk promises.
         ensures noted { steps_of self.new ≡ steps_of self.old }
-        ensures first { self.new.first ≡ self.old.first }
-        ensures exact { is_ok result ≡ passes self.old.plan }
-        ensures called { self.new.plan ≡ called self.old.plan }
+        ensures first { first_of self.new ≡ first_of self.old }
+        ensures exact { is_ok result ≡ passes (plan_of self.old) }
+        ensures called { plan_of self.new ≡ called (plan_of self.old) }
     {
         if !self.plan.next() {
             self.faults.rise();
@@ -243,14 +244,14 @@ impl Disk for MemDisk {
         ensures time { Elapses (clock_of self.old) (clock_of self.new) (SinceOf self.old) (SinceOf self.new) (LeftOf self.new) }
         ensures room { (calls_room self.old ≤ calls_room self.new + 1)
             × (bytes_room self.old ≤ bytes_room self.new + length from.now) }
-        ensures cause { Counts self.old.faults.count self.new.faults.count result }
+        ensures cause { Counts (faults_of self.old) (faults_of self.new) result }
 
         // Beside what each disk promises.
         ensures kept { OnErr result (reads_of self.new ≡ reads_of self.old) }
         ensures noted { steps_of self.new ≡ (record { call = Write at (length from.now); ok = is_ok result }, from.now) ∷ steps_of self.old }
-        ensures first { self.new.first ≡ self.old.first }
-        ensures exact { is_ok result ≡ passes self.old.plan }
-        ensures called { self.new.plan ≡ called self.old.plan }
+        ensures first { first_of self.new ≡ first_of self.old }
+        ensures exact { is_ok result ≡ passes (plan_of self.old) }
+        ensures called { plan_of self.new ≡ called (plan_of self.old) }
     {
         let ok = self.plan.next();
         let made = Made {
@@ -275,14 +276,14 @@ impl Disk for MemDisk {
         ensures images { Follows (CutShort len) (LeftOf self.old) (LeftOf self.new) }
         ensures time { Elapses (clock_of self.old) (clock_of self.new) (SinceOf self.old) (SinceOf self.new) (LeftOf self.new) }
         ensures room { (calls_room self.old ≤ calls_room self.new + 1) × (bytes_room self.old ≤ bytes_room self.new) }
-        ensures cause { Counts self.old.faults.count self.new.faults.count result }
+        ensures cause { Counts (faults_of self.old) (faults_of self.new) result }
 
         // Beside what each disk promises.
         ensures kept { OnErr result (reads_of self.new ≡ reads_of self.old) }
         ensures noted { steps_of self.new ≡ (record { call = Cut len; ok = is_ok result }, []) ∷ steps_of self.old }
-        ensures first { self.new.first ≡ self.old.first }
-        ensures exact { is_ok result ≡ passes self.old.plan }
-        ensures called { self.new.plan ≡ called self.old.plan }
+        ensures first { first_of self.new ≡ first_of self.old }
+        ensures exact { is_ok result ≡ passes (plan_of self.old) }
+        ensures called { plan_of self.new ≡ called (plan_of self.old) }
     {
         let ok = self.plan.next();
         let made = Made {
@@ -307,13 +308,13 @@ impl Disk for MemDisk {
         ensures reads { reads_of self.new ≡ reads_of self.old }
         ensures time { Elapses (clock_of self.old) (clock_of self.new) (SinceOf self.old) (SinceOf self.new) (LeftOf self.new) }
         ensures room { (calls_room self.old ≤ calls_room self.new + 1) × (bytes_room self.old ≤ bytes_room self.new) }
-        ensures cause { Counts self.old.faults.count self.new.faults.count result }
+        ensures cause { Counts (faults_of self.old) (faults_of self.new) result }
 
         // Beside what each disk promises.
         ensures noted { steps_of self.new ≡ (record { call = Sync; ok = is_ok result }, []) ∷ steps_of self.old }
-        ensures first { self.new.first ≡ self.old.first }
-        ensures exact { is_ok result ≡ passes self.old.plan }
-        ensures called { self.new.plan ≡ called self.old.plan }
+        ensures first { first_of self.new ≡ first_of self.old }
+        ensures exact { is_ok result ≡ passes (plan_of self.old) }
+        ensures called { plan_of self.new ≡ called (plan_of self.old) }
     {
         let ok = self.plan.next();
         let made = Made {

@@ -48,18 +48,19 @@ pub struct MemRack {
 
 impl MemRack {
     ghost use Rattle.std.specs.Prelude.{[], ◌∷◌, ◌++◌};
-    ghost use Rattle.disk_model.specs.Kept.{kept_at, SamePlans};
+    ghost use Rattle.disk_model.specs.Kept.{kept_at, rack_faults, rack_back, kept_in, rooms_of, rack_plan, planned_in, picks_of, used_picks, SamePicks, SamePlans};
+    ghost use Rattle.disk_model.specs.Plan.{plan_with};
     ghost use Rattle.disk_model.specs.declared.rack.DiskName.{DiskName};
 
     /// A rack that keeps nothing. Its `fresh` and `reopen` fail at the calls whose numbers are in `failing`, counted
     /// together from 0.
     pub fn new(alloc: Global, picks: Listed<Pick>, failing: Listed<u64>) -> MemRack
-        ensures faults { result.faults.count ≡ 0 }
-        ensures back { result.back.count ≡ 0 }
-        ensures kept { result.kept.items ≡ [] }
-        ensures picks { (result.picks ≡ picks) × (result.reopened ≡ 0) }
-        ensures plan { result.plan ≡ record { fuse = None; failing = failing; number = 0 } }
-        ensures planned { result.planned.items ≡ [] }
+        ensures faults { rack_faults result ≡ 0 }
+        ensures back { rack_back result ≡ 0 }
+        ensures kept { kept_in result ≡ [] }
+        ensures picks { (picks_of result ≡ picks) × (used_picks result ≡ 0) }
+        ensures plan { rack_plan result ≡ plan_with None failing }
+        ensures planned { planned_in result ≡ [] }
     {
         MemRack {
             picks,
@@ -75,14 +76,14 @@ impl MemRack {
 
     /// Sets what the first disk of this name does. Refused for want of memory alone, and then all is as it was.
     pub fn set(&mut self, name: DiskName, plan: Plan) -> Result<(), NoMemory>
-        ensures ok { OnOk result (self.new ≡ record self.old { planned = self.new.planned }) }
+        ensures ok { OnOk result (SamePicks self.old self.new) }
         ensures planned { OnOk result
-            (self.new.planned.items ≡ self.old.planned.items ++ record { name = name; plan = plan } ∷ []) }
+            (planned_in self.new ≡ planned_in self.old ++ record { name = name; plan = plan } ∷ []) }
         ensures err { OnErr result (SamePlans self.old self.new) }
-        ensures kept { self.new.kept.items ≡ self.old.kept.items }
-        ensures rooms { self.new.rooms ≡ self.old.rooms }
-        ensures back { self.new.back.count ≡ self.old.back.count }
-        ensures faults { self.new.faults.count ≡ self.old.faults.count }
+        ensures kept { kept_in self.new ≡ kept_in self.old }
+        ensures rooms { rooms_of self.new ≡ rooms_of self.old }
+        ensures back { rack_back self.new ≡ rack_back self.old }
+        ensures faults { rack_faults self.new ≡ rack_faults self.old }
     {
         self.planned.push(Planned { name, plan })?;
         Ok(())
@@ -90,14 +91,14 @@ impl MemRack {
 
     /// The disks that were kept; of several by one name the last one counts.
     pub fn kept(&self) -> &[Kept]
-        ensures { result.now ≡ self.now.kept.items }
+        ensures { result.now ≡ kept_in self.now }
     {
         self.kept.as_slice()
     }
 
     /// Adds the faults of a disk that it doesn't keep.
     pub(crate) fn take_back(&mut self, disk: &Faults)
-        ensures back { self.new.back.count ≡ self.old.back.count + disk.now.count }
+        ensures back { rack_back self.new ≡ rack_back self.old + disk.now.count }
         ensures rest { self.new ≡ record self.old { back = self.new.back } }
     {
         self.back.add(disk);
@@ -105,11 +106,11 @@ impl MemRack {
 
     /// Keeps no disk of this name any more.
     pub(crate) fn forget(&mut self, name: DiskName)
-        ensures here { kept_at self.new.kept.items name ≡ None }
-        ensures elsewhere { (other : DiskName) → other ≢ name → kept_at self.new.kept.items other ≡ kept_at self.old.kept.items other }
-        ensures rooms { self.new.rooms ≡ self.old.rooms }
-        ensures back { self.new.back.count ≡ self.old.back.count }
-        ensures faults { self.new.faults.count ≡ self.old.faults.count }
+        ensures here { kept_at (kept_in self.new) name ≡ None }
+        ensures elsewhere { (other : DiskName) → other ≢ name → kept_at (kept_in self.new) other ≡ kept_at (kept_in self.old) other }
+        ensures rooms { rooms_of self.new ≡ rooms_of self.old }
+        ensures back { rack_back self.new ≡ rack_back self.old }
+        ensures faults { rack_faults self.new ≡ rack_faults self.old }
         ensures plans { SamePlans self.old self.new }
     {
         self.kept.retain(|kept| !kept.name.is_same(&name));
@@ -118,41 +119,42 @@ impl MemRack {
 
 impl Rack for MemRack {
     ghost use Rattle.std.specs.Prelude.{[], ◌∷◌, ◌++◌, ◌↔◌, ◌^◌, min};
-    ghost use Rattle.disk_model.specs.Kept.{kept_at, pick_of, plan_for, without_plan, SamePlans, HasCounted};
-    ghost use Rattle.disk_model.specs.Plan.{passes, called};
+    ghost use Rattle.disk_model.specs.Kept.{rack_faults, rack_back, kept_in, kept_files, rooms_of, rack_plan, planned_in, picks_of, used_picks, pick_of, plan_for, without_plan, SamePlans, HasCounted};
+    ghost use Rattle.disk_model.specs.Plan.{passes, called, without_fuse};
     ghost use Rattle.disk_model.specs.Rack.{KeepsAt, IsNew, IsCrashed, HasRackCause};
     ghost use Rattle.disk_model.specs.declared.rack.RackRefused.TheVariants.{Fault};
-    ghost use Rattle.disk_model.specs.Memory.{reads_of, LeftOf, picked};
+    ghost use Rattle.disk_model.specs.Memory.{faults_of, plan_of, file_of, reads_of, LeftOf, picked};
 
     type D = MemDisk;
 
-    ghost faults = { λ r. r.faults.count };
+    ghost faults = { rack_faults };
 
-    ghost back = { λ r. r.back.count };
+    ghost back = { rack_back };
 
-    ghost kept = { λ r. Some (kept_at r.kept.items) };
+    ghost kept = { kept_files };
 
-    ghost rooms = { λ r. r.rooms };
+    ghost rooms = { rooms_of };
 
     fn fresh(&mut self, alloc: Global, name: DiskName) -> Result<MemDisk, RackRefused>
         ensures ok { IfOk result (λ disk. IsNew (reads_of disk) (LeftOf disk)) }
-        ensures no_fault { IfOk result (λ disk. disk.faults.count ≡ 0) }
-        ensures room { OnOk result (self.old.rooms + 1 ≤ self.new.rooms) }
-        ensures no_less { self.old.rooms ≤ self.new.rooms }
-        ensures kept { Some (kept_at self.new.kept.items) ≡ Some (kept_at self.old.kept.items) }
-        ensures back { self.new.back.count ≡ self.old.back.count }
-        ensures steady { OnOk result (self.new.faults.count ≡ self.old.faults.count) }
-        ensures cause { IfErr result (HasRackCause self.old.faults.count self.new.faults.count) }
+        ensures told { IfOk result (λ disk. is_some (reads_of disk) ≡ is_some (kept_files self.old)) }
+        ensures no_fault { IfOk result (λ disk. faults_of disk ≡ 0) }
+        ensures room { OnOk result (rooms_of self.old + 1 ≤ rooms_of self.new) }
+        ensures no_less { rooms_of self.old ≤ rooms_of self.new }
+        ensures kept { kept_files self.new ≡ kept_files self.old }
+        ensures back { rack_back self.new ≡ rack_back self.old }
+        ensures steady { OnOk result (rack_faults self.new ≡ rack_faults self.old) }
+        ensures cause { IfErr result (HasRackCause (rack_faults self.old) (rack_faults self.new)) }
 
         // Beside what each rack promises.
-        ensures passed { OnOk result (passes self.old.plan ≡ true) }
-        ensures failed { IsErrOf result Fault ↔ (passes self.old.plan ≡ false) }
-        ensures called { OnOk result (self.new.plan ≡ called self.old.plan) }
-        ensures refused { IfErr result (HasCounted self.old.plan self.new.plan) }
-        ensures plan { IfOk result (λ disk. disk.plan ≡ plan_for self.old.planned.items name) }
-        ensures taken { OnOk result (self.new.planned.items ≡ without_plan self.old.planned.items name) }
-        ensures not_taken { OnErr result (self.new.planned.items ≡ self.old.planned.items) }
-        ensures picks { (self.new.picks ≡ self.old.picks) × (self.new.reopened ≡ self.old.reopened) }
+        ensures passed { OnOk result (passes (rack_plan self.old) ≡ true) }
+        ensures failed { IsErrOf result Fault ↔ (passes (rack_plan self.old) ≡ false) }
+        ensures called { OnOk result (rack_plan self.new ≡ called (rack_plan self.old)) }
+        ensures refused { IfErr result (HasCounted (rack_plan self.old) (rack_plan self.new)) }
+        ensures plan { IfOk result (λ disk. plan_of disk ≡ plan_for (planned_in self.old) name) }
+        ensures taken { OnOk result (planned_in self.new ≡ without_plan (planned_in self.old) name) }
+        ensures not_taken { OnErr result (planned_in self.new ≡ planned_in self.old) }
+        ensures picks { (picks_of self.new ≡ picks_of self.old) × (used_picks self.new ≡ used_picks self.old) }
     {
         if !self.plan.passes() {
             self.plan.count();
@@ -174,24 +176,24 @@ impl Rack for MemRack {
     fn reopen(&mut self, alloc: Global, old: MemDisk) -> Result<MemDisk, ReopenRefused<MemDisk>>
         ensures ok { IfOk result (λ disk. IsCrashed (reads_of disk) (LeftOf old) (LeftOf disk)) }
         ensures told { IfOk result (λ disk. is_some (reads_of disk) ≡ is_some (reads_of old)) }
-        ensures counts_on { IfOk result (λ disk. disk.faults.count ≡ old.faults.count) }
+        ensures counts_on { IfOk result (λ disk. faults_of disk ≡ faults_of old) }
         ensures handed_back { IfErr result (λ e. e.disk ≡ old) }
-        ensures rooms { self.old.rooms ≤ self.new.rooms }
-        ensures kept { Some (kept_at self.new.kept.items) ≡ Some (kept_at self.old.kept.items) }
-        ensures back { self.new.back.count ≡ self.old.back.count }
-        ensures steady { OnOk result (self.new.faults.count ≡ self.old.faults.count) }
-        ensures cause { IfErr result (λ e. HasRackCause self.old.faults.count self.new.faults.count e.why) }
+        ensures rooms { rooms_of self.old ≤ rooms_of self.new }
+        ensures kept { kept_files self.new ≡ kept_files self.old }
+        ensures back { rack_back self.new ≡ rack_back self.old }
+        ensures steady { OnOk result (rack_faults self.new ≡ rack_faults self.old) }
+        ensures cause { IfErr result (λ e. HasRackCause (rack_faults self.old) (rack_faults self.new) e.why) }
 
         // Beside what each rack promises.
-        ensures passed { OnOk result (passes self.old.plan ≡ true) }
-        ensures failed { IfErr result (λ e. (e.why ≡ Fault) ↔ (passes self.old.plan ≡ false)) }
-        ensures called { OnOk result (self.new.plan ≡ called self.old.plan) }
-        ensures refused { IfErr result (λ e. HasCounted self.old.plan self.new.plan e.why) }
-        ensures picked { IfOk result (λ disk. disk.bytes.items ≡ picked (pick_of self.old) old) }
-        ensures next { OnOk result (self.new.reopened ≡ min (self.old.reopened + 1) (2 ^ 64 - 1)) }
-        ensures not_used { OnErr result (self.new.reopened ≡ self.old.reopened) }
-        ensures picks { (self.new.picks ≡ self.old.picks) × (self.new.planned.items ≡ self.old.planned.items) }
-        ensures plan { IfOk result (λ disk. disk.plan ≡ record old.plan { fuse = None }) }
+        ensures passed { OnOk result (passes (rack_plan self.old) ≡ true) }
+        ensures failed { IfErr result (λ e. (e.why ≡ Fault) ↔ (passes (rack_plan self.old) ≡ false)) }
+        ensures called { OnOk result (rack_plan self.new ≡ called (rack_plan self.old)) }
+        ensures refused { IfErr result (λ e. HasCounted (rack_plan self.old) (rack_plan self.new) e.why) }
+        ensures picked { IfOk result (λ disk. file_of disk ≡ picked (pick_of self.old) old) }
+        ensures next { OnOk result (used_picks self.new ≡ min (used_picks self.old + 1) (2 ^ 64 - 1)) }
+        ensures not_used { OnErr result (used_picks self.new ≡ used_picks self.old) }
+        ensures picks { (picks_of self.new ≡ picks_of self.old) × (planned_in self.new ≡ planned_in self.old) }
+        ensures plan { IfOk result (λ disk. plan_of disk ≡ without_fuse (plan_of old)) }
     {
         if !self.plan.passes() {
             self.plan.count();
@@ -217,10 +219,10 @@ impl Rack for MemRack {
     }
 
     fn discard(&mut self, old: MemDisk)
-        ensures back { self.new.back.count ≡ self.old.back.count + old.faults.count }
-        ensures rooms { self.old.rooms ≤ self.new.rooms }
-        ensures kept { Some (kept_at self.new.kept.items) ≡ Some (kept_at self.old.kept.items) }
-        ensures faults { self.new.faults.count ≡ self.old.faults.count }
+        ensures back { rack_back self.new ≡ rack_back self.old + faults_of old }
+        ensures rooms { rooms_of self.old ≤ rooms_of self.new }
+        ensures kept { kept_files self.new ≡ kept_files self.old }
+        ensures faults { rack_faults self.new ≡ rack_faults self.old }
 
         // Beside what each rack promises.
         ensures plans { SamePlans self.old self.new }
@@ -229,15 +231,15 @@ impl Rack for MemRack {
     }
 
     fn keep(&mut self, name: DiskName, disk: MemDisk)
-        requires { 0 < self.old.rooms }
-        ensures kept { KeepsAt name (reads_of disk) (Some (kept_at self.old.kept.items)) (Some (kept_at self.new.kept.items)) }
-        ensures back { self.new.back.count ≡ self.old.back.count + disk.faults.count }
-        ensures rooms { self.old.rooms ≤ self.new.rooms + 1 }
-        ensures faults { self.new.faults.count ≡ self.old.faults.count }
+        requires { 0 < rooms_of self.old }
+        ensures kept { KeepsAt name (reads_of disk) (kept_files self.old) (kept_files self.new) }
+        ensures back { rack_back self.new ≡ rack_back self.old + faults_of disk }
+        ensures rooms { rooms_of self.old ≤ rooms_of self.new + 1 }
+        ensures faults { rack_faults self.new ≡ rack_faults self.old }
 
         // Beside what each rack promises.
         ensures plans { SamePlans self.old self.new }
-        ensures disks { self.new.kept.items ≡ self.old.kept.items ++ record { name = name; disk = disk } ∷ [] }
+        ensures disks { kept_in self.new ≡ kept_in self.old ++ record { name = name; disk = disk } ∷ [] }
     {
         self.back.add(&disk.faults);
         self.rooms -= 1;

@@ -12,12 +12,12 @@ pub struct Plan {
 }
 
 impl Plan {
-    ghost use Rattle.disk_model.specs.Plan.{passes, called};
+    ghost use Rattle.disk_model.specs.Plan.{passes, called, plan_with, without_fuse};
 
     /// The plan before the first call: a fuse lets so many calls pass and none behind them, and the calls whose
     /// numbers are in `failing` fail.
     pub fn new(fuse: Option<u64>, failing: Listed<u64>) -> Plan
-        ensures { result ≡ record { fuse = fuse; failing = failing; number = 0 } }
+        ensures { result ≡ plan_with fuse failing }
     {
         Plan {
             fuse,
@@ -28,7 +28,7 @@ impl Plan {
 
     /// The plan of a disk that was opened again.
     pub(crate) fn reopened(self) -> Plan
-        ensures { result ≡ record self { fuse = None } }
+        ensures { result ≡ without_fuse self }
     {
         Plan { fuse: None, ..self }
     }

@@ -64,10 +64,12 @@ pub trait Rack {
     /// How many disks there is room to keep.
     ghost rooms: { Self → ℕ };
 
-    /// An empty disk without a fault, and room to keep one more. Refused by a fault of the rack, or for want of memory;
+    /// An empty disk without a fault, which tells what it reads exactly where the rack tells what it keeps, and room to
+    /// keep one more. Refused by a fault of the rack, or for want of memory;
     /// what it keeps stays.
     fn fresh(&mut self, alloc: Global, name: DiskName) -> Result<Self::D, RackRefused>
         ensures ok { IfOk result (λ disk. IsNew (Self.D.reads disk) (Self.D.may_leave disk)) }
+        ensures told { IfOk result (λ disk. is_some (Self.D.reads disk) ≡ is_some (kept self.old)) }
         ensures no_fault { IfOk result (λ disk. Self.D.faults disk ≡ 0) }
         ensures room { OnOk result (rooms self.old + 1 ≤ rooms self.new) }
         ensures no_less { rooms self.old ≤ rooms self.new }

@@ -7,7 +7,7 @@ use Rattle.std.specs.Cmp.{IsTotalOrder}
 use Rattle.std.specs.Cmp.Lexicographic.{nat_list_cmp_total}
 use Rattle.std.specs.FinMap.{IsAntisymmetric, slice_cmp-IsAntisymmetric, nat_cmp-IsAntisymmetric}
 use Rattle.std.proofs.lemmas.Cmp.{tied_itself}
-use Rattle.kv_part.specs.Store.{bytes_cmp}
+use Rattle.byte_fields.specs.Order.{bytes_cmp}
 
 pub total : IsTotalOrder bytes_cmp
 total = nat_list_cmp_total

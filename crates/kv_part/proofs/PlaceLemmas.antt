@@ -6,7 +6,8 @@ use Rattle.std.specs.Ordering.{is_eq, match_ordering}
 use Rattle.std.specs.BTreeMap.{is_at, insert_entry}
 use Rattle.std.specs.Map.{set_value}
 use Rattle.std.specs.FinMap.{get, get-empty, get-insert, get-remove, same_map}
-use Rattle.kv_part.specs.Store.{bytes_cmp, Contents}
+use Rattle.byte_fields.specs.Order.{bytes_cmp}
+use Rattle.kv_part.specs.Store.{Contents}
 use Rattle.kv_part.specs.Places.{with_at, stored, place_at, is_placed}
 use Rattle.kv_part.proofs.Orders.{total, exact, itself, same_or_apart, same}
 

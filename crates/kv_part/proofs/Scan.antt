@@ -11,7 +11,8 @@ use Rattle.std.specs.FinMap.{entries, empty, len-empty, len-entries, entries-ins
 use Rattle.std.specs.FinMap.Entries.{put}
 use Rattle.std.proofs.lemmas.Bool.{eq-eqb, ne_eqb, eqb-true, and_parts, and_right, and_left, both_ways}
 use Rattle.std.proofs.lemmas.Map.Keys.{sorted_head, sorted_tail}
-use Rattle.kv_part.specs.Store.{bytes_cmp, under}
+use Rattle.byte_fields.specs.Order.{bytes_cmp}
+use Rattle.kv_part.specs.Store.{under}
 use Rattle.kv_part.specs.Places.{with_at, stored, place_at}
 use Rattle.kv_part.proofs.Orders.{total, exact, itself, same_or_apart}
 use Rattle.kv_part.proofs.PlaceLemmas.{get-stored, value_in}

@@ -3,7 +3,8 @@ use Rattle.std.specs.Prelude.{ℕ, Bool, is_some, List, [], ◌∷◌, Option, S
 use Rattle.std.specs.FinMap.{empty, insert, remove}
 use Rattle.std.specs.BTreeMap.{is_at}
 use Rattle.std.specs.Map.{lookup}
-use Rattle.kv_part.specs.Store.{bytes_cmp, Contents}
+use Rattle.byte_fields.specs.Order.{bytes_cmp}
+use Rattle.kv_part.specs.Store.{Contents}
 
 -- the map with w at the key; `None` takes it out
 abbrev pub with_at : Contents → List ℕ → Option (List ℕ) → Contents

@@ -1,16 +1,10 @@
 -- A store as a finite map from bytes to bytes.
 use Rattle.std.specs.Prelude.{◌≡◌, ℕ, Bool, true, List, [], ◌∷◌, nat_eq}
-use Rattle.std.specs.Ordering.{nat_cmp}
-use Rattle.std.specs.declared.cmp.Ordering.{Ordering}
-use Rattle.std.specs.Cmp.Lexicographic.{slice_cmp}
 use Rattle.std.specs.FinMap.{FinMap, entries, insert, remove}
 use Rattle.std.specs.List.{AllByRecursion, filter, starts_with}
+use Rattle.byte_fields.specs.Order.{bytes_cmp}
 use Rattle.kv_part.specs.declared.batch.Write.{Write}
 use Rattle.kv_part.specs.declared.batch.Write.TheVariants.{Put, Remove}
-
--- the order of keys: byte by byte, and a front before the whole
-abbrev pub bytes_cmp : List ℕ → List ℕ → Ordering
-bytes_cmp a b = slice_cmp nat_cmp a b
 
 abbrev pub Contents : Type 0
 Contents = FinMap bytes_cmp (List ℕ)

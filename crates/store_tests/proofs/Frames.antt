@@ -1,13 +1,11 @@
 -- A record without entries has a frame.
 use Rattle.std.proofs.Common.{◌≡◌, ℕ, ◌<◌, ◌^◌, List, [], ◌++◌, length, Result, Ok, Err, IfOk, ap, arith, length-append}
 use Rattle.std.specs.List.{flat_map}
-use Rattle.lists.specs.declared.memory.NoMemory.{NoMemory}
 use Rattle.byte_fields.specs.Fields.{number}
 use Rattle.byte_fields.proofs.Numbers.{length-number}
 use Rattle.raft_log.specs.declared.entry.Entry.{Entry}
 use Rattle.raft_log.specs.declared.record.Record.{Record}
-use Rattle.wal_frames.specs.Spelling.{entry, entries, body, frame}
-use Rattle.wal_disk.specs.File.{IsFrame}
+use Rattle.wal_frames.specs.Spelling.{entry, entries, body}
 
 pub small_body : (r : Record) → r.entries ≡ [] → length (body r) < 2 ^ 32
 small_body r none =
@@ -26,7 +24,3 @@ small_body r none =
       length-number 8 r.keep,
       length-number 4 (length r.entries),
     )
-
-pub framed : (result : Result (List ℕ) NoMemory) (r : Record) → r.entries ≡ [] → IfOk result (λ f. f ≡ frame r) → IfOk result (λ f. (b : List ℕ) × IsFrame b f)
-framed (Ok f) r none is = (body r, record { fits = small_body r none; whole = is })
-framed (Err e) r none is = tt

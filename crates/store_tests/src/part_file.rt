@@ -1,8 +1,10 @@
 //! The part file as bytes: the worked file and the calls that make it, a stop at each call of an append, damaged files,
 //! and a real file.
 ghost use Rattle.std.specs.Prelude.{ℕ, List, IfOk};
-ghost use Rattle.wal_disk.specs.File.{IsFrame};
+ghost use Rattle.byte_fields.specs.Frames.{IsFrame};
+ghost use Rattle.byte_fields.specs.Versions.{IsVersion};
 
+use byte_fields::Frame;
 use disk_model::{
     Call, Disk, DiskName, FileRack, HostRack, Made, MemDisk, MemRack, Pick, Plan, Rack, Tears,
 };
@@ -11,7 +13,7 @@ use raft_log::Record;
 use std::alloc::Global;
 use std::fs;
 use std::test::Fail;
-use wal_disk::{Frame, OpenWhy, Wal, WalRefused};
+use wal_disk::{OpenWhy, Wal, WalRefused};
 use wal_frames::{FrameRefused, decode, encode};
 
 /// The file of one record: term 1, vote 1, keep 0 and no entries.
@@ -45,10 +47,17 @@ fn one_frame(alloc: Global) -> Result<Frame, NoMemory>
     encode(alloc, &record)
 }
 
-/// Makes the file and appends the record. Gives the disk, and whether the record was acknowledged.
+/// Makes the file of version 1 and appends the record. Gives the disk, and whether the record was acknowledged.
 fn append_one<D: Disk + Drop>(alloc: Global, disk: D) -> Result<(D, bool), Fail> {
+    append_to(alloc, disk, 1)
+}
+
+/// Makes the file of this version and appends the record. Gives the disk, and whether the record was acknowledged.
+fn append_to<D: Disk + Drop>(alloc: Global, disk: D, version: u8) -> Result<(D, bool), Fail>
+    requires { IsVersion version }
+{
     let frame = one_frame(alloc)?;
-    let Ok(mut wal) = Wal::create(alloc, disk) else {
+    let Ok(mut wal) = Wal::create(alloc, disk, version) else {
         return Err(Fail::new("no file was made"));
     };
     wal.reserve(alloc, frame.len())?;
@@ -106,6 +115,21 @@ fn worked_file(rt: HostRuntime) -> Result<(), Fail> {
     assert_eq!(rt; disk.calls().len(), CALLS.len());
     for (made, call) in disk.calls().iter().zip(CALLS.iter()) {
         assert!(rt; is_call(made, call));
+    }
+    Ok(())
+}
+
+#[test]
+fn second_version(rt: HostRuntime) -> Result<(), Fail> {
+    let alloc = rt.alloc();
+    let (disk, acknowledged) = append_to(alloc, disk_with(alloc, None), 2)?;
+    assert!(rt; acknowledged);
+    let mut file = FILE;
+    file[3] = 0x32;
+    assert_eq!(rt; disk.bytes(), file.as_slice());
+    match Wal::recover(alloc, disk) {
+        Ok(found) => assert!(rt; found.version == 2 && found.bodies.len() == 1),
+        Err(_) => return Err(Fail::new("no record was found")),
     }
     Ok(())
 }

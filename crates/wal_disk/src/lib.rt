@@ -1,6 +1,6 @@
 //! The part file: records that are on the disk before they are acknowledged.
 //!
-//! A file is the magic `NBW1` and a gate byte; behind an open gate come a body with its length and the next gate. A
+//! A file is the magic, `NBW1` or `NBW2` by its version, and a gate byte; behind an open gate come a body with its length and the next gate. A
 //! [`Wal`] appends a record by four calls of its disk: the frame is written behind the closed gate and synced, and
 //! then the gate is opened by a write of its own and synced. No checksum is trusted: what stands behind a closed
 //! gate doesn't count, and the gate stands closed on the disk until the frame is there.
@@ -28,6 +28,3 @@ pub use wal::{Recovered, Wal};
 
 /// The bodies of a file's records, in order.
 pub type Bodies = Listed<Bytes>;
-
-/// A frame: the length of a body in 4 bytes, the body, and a closed gate.
-pub type Frame = Bytes;

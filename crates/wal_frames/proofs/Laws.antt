@@ -199,9 +199,3 @@ body_again r rest fits =
     let e3 = append_assoc (number 8 r.term) (number 4 r.vote) (number 8 r.keep ++ (entries r.entries ++ rest)) in
     let regrouped : body r ++ rest ≡ number 8 r.term ++ (number 4 r.vote ++ (number 8 r.keep ++ (entries r.entries ++ rest))) = e1 ∙ e2 ∙ e3 in
     rw (regrouped, number_again 8 r.term (number 4 r.vote ++ (number 8 r.keep ++ (entries r.entries ++ rest))) fits.term, number_again 4 r.vote (number 8 r.keep ++ (entries r.entries ++ rest)) fits.vote, number_again 8 r.keep (entries r.entries ++ rest) fits.keep, entries_again r.entries rest fits.entries_fit) refl
-
-pub whole_body_takes : (bytes : List ℕ) (r : Record) → IsBytes bytes → whole body_at bytes ≡ Ok r → (bytes ≡ body r) × FitsRecord r
-whole_body_takes bytes r fits e = whole_takes body_at body FitsRecord body_takes bytes r fits e
-
-pub whole_body_again : (r : Record) → FitsRecord r → whole body_at (body r) ≡ Ok r
-whole_body_again r fits = whole_again body_at body FitsRecord body_again r fits

@@ -4,7 +4,7 @@
 -- the item, where the body ends before the length that is given for it;
 -- a field inside the item, where it doesn't fit within that length; the first byte that is left over within it;
 -- the first byte that is left over behind the last entry.
-use Rattle.std.specs.Prelude.{◌≡◌, ℕ, ◌+◌, ◌-◌, List, [], length, Result, Ok, Err, nat_lt, ◌==◌, if◌then◌else◌}
+use Rattle.std.specs.Prelude.{ℕ, ◌-◌, List, [], length, Result, Ok, Err, Option, Some, None, nat_lt, ◌==◌, if◌then◌else◌}
 use Rattle.std.specs.List.{list_any}
 use Rattle.byte_fields.specs.declared.misfit.Misfit.{Misfit}
 use Rattle.byte_fields.specs.Reading.{◌>>=◌, misfit, byte_at, number_at, id_at, rising_at, many_at, whole, inside}
@@ -56,18 +56,7 @@ body_at bytes = do
   entries ← entries_at keep.1
   Ok (record { term = term.0; vote = vote.0; keep = keep.0; entries = entries.0 }, entries.1)
 
--- What `decode` answered is what reading all of a body of n bytes gives, unless memory ran out. A misfit's place and
--- the bytes that are left from it on are the whole body.
-abbrev pub RefusedAs : ℕ → FrameRefused → Result Record Misfit → Type 0
-RefusedAs n (refusals.BadFile place) read = (m : Misfit) × (read ≡ Err m) × (place + m.left ≡ n)
-RefusedAs n refusals.NoMemory read = Unit {0}
-
-abbrev pub Decodes : ℕ → Result Record FrameRefused → Result Record Misfit → Type 0
-Decodes n (Ok r) read = read ≡ Ok r
-Decodes n (Err refused) read = RefusedAs n refused read
-
--- it answered the record, unless memory ran out
-abbrev pub Answers : Record → Result Record FrameRefused → Type 0
-Answers r (Ok found) = found ≡ r
-Answers r (Err (refusals.BadFile place)) = ⊥
-Answers r (Err refusals.NoMemory) = Unit {0}
+-- where a body was refused, if that wasn't for want of memory
+abbrev pub place : FrameRefused → Option ℕ
+place (refusals.BadFile at) = Some at
+place refusals.NoMemory = None

@@ -10,10 +10,6 @@ use Rattle.raft_log.specs.declared.entry.Item.{Item}
 use Rattle.raft_log.specs.declared.entry.Item.TheVariants.{NoOp, Members, Payload}
 use Rattle.raft_log.specs.declared.record.Record.{Record}
 
--- a gate byte behind which nothing counts
-abbrev pub closed_gate : ℕ
-closed_gate = 0
-
 -- the voters behind their count, the learners behind theirs
 abbrev pub config : Config → List ℕ
 config c = length c.voters ∷ ids c.voters ++ length c.learners ∷ ids c.learners
@@ -35,10 +31,6 @@ entries es = number 4 (length es) ++ flat_map entry es
 -- term, vote, keep, entries
 abbrev pub body : Record → List ℕ
 body r = number 8 r.term ++ number 4 r.vote ++ number 8 r.keep ++ entries r.entries
-
--- length of the body, body, closed gate
-abbrev pub frame : Record → List ℕ
-frame r = number 4 (length (body r)) ++ body r ++ closed_gate ∷ []
 
 -- ---- what has a spelling
 

@@ -19,10 +19,6 @@ mod reading;
 mod refused;
 mod writing;
 
-use lists::Listed;
 pub use reading::{decode, one_spelling, read_entries};
 pub use refused::FrameRefused;
 pub use writing::{encode, put_entries};
-
-/// A frame, as its bytes.
-pub type Frame = Listed<u8>;

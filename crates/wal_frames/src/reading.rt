@@ -1,9 +1,9 @@
 //! Reading bodies.
 ghost use Rattle.std.specs.Prelude.{◌≡◌, ◌≤◌, ◌++◌, List, ℕ, length, IfOk};
-ghost use Rattle.byte_fields.specs.Reading.{Reads, Gives, rising_at, many_at, whole};
+ghost use Rattle.byte_fields.specs.Reading.{Reads, Gives, ReadsAll, Answers, rising_at, many_at, whole};
 ghost use Rattle.raft_log.specs.declared.record.Record.{Record};
 ghost use Rattle.wal_frames.specs.Spelling.{FitsRecord, body};
-ghost use Rattle.wal_frames.specs.Reading.{Answers, Decodes, peer_at, peers_at, config_at, item_of, entry_at, entries_at, body_at};
+ghost use Rattle.wal_frames.specs.Reading.{place, peer_at, peers_at, config_at, item_of, entry_at, entries_at, body_at};
 
 use crate::refused::FrameRefused;
 use byte_fields::{Misfit, ReadRefused, read_byte, read_id, read_run, read_u32, read_u64};
@@ -138,7 +138,7 @@ fn read_body(alloc: Global, bytes: &[u8]) -> Result<Record, ReadRefused>
 }
 
 fn decoded(alloc: Global, body: &[u8]) -> Result<Record, FrameRefused>
-    ensures { Decodes (length body.now) result (whole body_at body.now) }
+    ensures { ReadsAll place (length body.now) result (whole body_at body.now) }
 {
     match read_body(alloc, body) {
         Ok(record) => Ok(record),
@@ -155,9 +155,9 @@ pub fn decode(alloc: Global, bytes: &[u8]) -> Result<Record, FrameRefused>
     // What is read is spelled so.
     ensures found { IfOk result (λ r. FitsRecord r × (bytes.now ≡ body r)) }
     // What is spelled so is read, unless memory runs out.
-    ensures only { (r : Record) → FitsRecord r → bytes.now ≡ body r → Answers r result }
+    ensures only { (r : Record) → FitsRecord r → bytes.now ≡ body r → Answers place r result }
     // At which place it is refused.
-    ensures exact { Decodes (length bytes.now) result (whole body_at bytes.now) }
+    ensures exact { ReadsAll place (length bytes.now) result (whole body_at bytes.now) }
 {
     decoded(alloc, bytes)
 }

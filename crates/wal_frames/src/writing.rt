@@ -2,10 +2,10 @@
 ghost use Rattle.std.specs.Prelude.{◌≡◌, ◌<◌, ◌^◌, ◌++◌, length, IfOk, OnOk};
 ghost use Rattle.std.specs.List.{flat_map, AllByRecursion};
 ghost use Rattle.raft_log.specs.Config.{IsConfig, IsItem, AreEntries};
-ghost use Rattle.wal_frames.specs.Spelling.{config, item, entry, entries, body, frame, FitsConfig, FitsItem, FitsEntry, FitEntries, FitsRecord};
+ghost use Rattle.byte_fields.specs.Frames.{HasFrame, IsFrame};
+ghost use Rattle.wal_frames.specs.Spelling.{config, item, entry, entries, body, FitsConfig, FitsItem, FitsEntry, FitEntries, FitsRecord};
 
-use crate::Frame;
-use byte_fields::Writer;
+use byte_fields::{CLOSED_GATE, Frame, Writer};
 use lists::NoMemory;
 use raft_log::{Config, Entries, Entry, Item, Record};
 use std::alloc::Global;
@@ -96,8 +96,8 @@ fn put_body(out: &mut Writer, made: &Record) -> Result<(), NoMemory>
 /// memory alone; a record that has a frame is one that `decode` reads again.
 pub fn encode(alloc: Global, made: &Record) -> Result<Frame, NoMemory>
     requires are { AreEntries made.now.entries }
-    requires fits { length (body made.now) < 2 ^ 32 }
-    ensures ok { IfOk result (λ framed. framed ≡ frame made.now) }
+    requires fits { HasFrame (body made.now) }
+    ensures ok { IfOk result (λ frame. IsFrame (body made.now) frame) }
     ensures fits { OnOk result (FitsRecord made.now) }
 {
     let mut out = Writer::new(alloc);
@@ -107,6 +107,3 @@ pub fn encode(alloc: Global, made: &Record) -> Result<Frame, NoMemory>
     out.put_byte(CLOSED_GATE)?;
     Ok(out.into_bytes())
 }
-
-// The gate byte behind which nothing counts.
-const CLOSED_GATE: u8 = 0;

@@ -17,5 +17,8 @@ fill_length-requires-clause-fits c =
 pub returns-clause-ok : goal.returns-clause-ok
 returns-clause-ok c =
     let is : c.put_body.new.out ≡ [] ++ number 4 0 ++ body c.args.made.now = c.in_ok-put_body.ensures.ok ∙ ap (λ (front : List ℕ). front ++ body c.args.made.now) (c.in_ok-put_u32.ensures.ok ∙ ap (λ (front : List ℕ). front ++ number 4 0) c.new-out.ensures) in
-    c.into_bytes.ensures ∙ c.in_ok-put_byte.ensures.ok
-    ∙ ap (λ (front : List ℕ). front ++ 0 ∷ []) (c.fill_length.ensures ∙ filled c.put_body.new.out [] (body c.args.made.now) 0 is refl)
+    record {
+      fits = c.requires.fits;
+      whole = c.into_bytes.ensures ∙ c.in_ok-put_byte.ensures.ok
+          ∙ ap (λ (front : List ℕ). front ++ 0 ∷ []) (c.fill_length.ensures ∙ filled c.put_body.new.out [] (body c.args.made.now) 0 is refl);
+    }

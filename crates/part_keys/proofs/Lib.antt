@@ -1,0 +1,5 @@
+pub mod EntryFormats
+pub mod Fillings
+pub mod FlippedOrders
+pub mod KeyFormats
+pub mod KeyOrders

@@ -1,0 +1,10 @@
+pub mod Kinds
+pub mod Routing
+pub mod Worked
+pub mod Spelled
+pub mod Spelling
+pub mod Fits
+pub mod Reading
+pub mod Keys
+pub mod ReadingKeys
+pub mod KeyOrder

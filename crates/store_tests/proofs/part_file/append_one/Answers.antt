@@ -1,5 +1,0 @@
-use Rattle.std.proofs.Common.{[]}
-use Rattle.store_tests.proofs.part_file.append_one.Goals as goal
-
-pub append-requires-clause-sound : goal.append-requires-clause-sound
-append-requires-clause-sound g c = ([], c.reserve.ensures.sound [] c.in-Ok.ensures.ok)
