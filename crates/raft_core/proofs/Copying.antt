@@ -1,0 +1,59 @@
+-- Entries behind an index, one after the other; and the configuration behind them.
+use Rattle.std.proofs.Common.{◌≡◌, refl, inl, inr, ℕ, ◌+◌, ◌-◌, ◌<◌, ◌≤◌, min, List, [], ◌∷◌, ◌++◌, length, take, drop, get_or, slice_get, Some, None, ap, sym, ◌∙◌, arith, add-one, take_all}
+use Rattle.std.proofs.lemmas.List.{take_more, get_or-drop, length-drop, drop-take, take-take, take-append-le, length-take-le}
+use Rattle.std.proofs.lemmas.Bool.{cases_lt}
+use Rattle.std.proofs.lemmas.Option.{slice_get_within, slice_get-get_or, get_or_from_slice_get}
+use Rattle.raft_log.specs.declared.config.Config.{Config}
+use Rattle.raft_log.specs.declared.entry.Entry.{Entry}
+use Rattle.raft_log.specs.declared.entry.Item.TheVariants.{NoOp}
+use Rattle.raft_log.specs.Log.{entry_at, config_behind, config_from, config_of, no_members}
+
+module _ (log : List Entry) (behind k : ℕ) where
+  pub one_more : (entry : Entry) → entry_at log (behind + k + 1) ≡ Some entry → take (k + 1) (drop behind log) ≡ take k (drop behind log) ++ entry ∷ []
+  one_more entry e =
+      let at : slice_get log (behind + k) ≡ Some entry = rw add-one at e in
+      let inside = slice_get_within log (behind + k) entry at in
+      let long = length-drop behind log in
+      let more = take_more (drop behind log) k entry (omega (arith, long, inside)) in
+      let here : get_or (drop behind log) k entry ≡ entry = get_or-drop behind log k entry ∙ get_or_from_slice_get log (behind + k) entry entry at in
+      more ∙ ap (λ x. take k (drop behind log) ++ x ∷ []) here
+
+  pub no_more : (n : ℕ) → entry_at log (behind + k + 1) ≡ None → k < n → take k (drop behind log) ≡ take n (drop behind log)
+  no_more n e below =
+      let at : slice_get log (behind + k) ≡ None = rw add-one at e in
+      let long = length-drop behind log in
+      elim (cases_lt (behind + k) (length log)) [
+        | inl inside ↦ absurd (let there = slice_get-get_or log (behind + k) (record { term = 0; item = NoOp }) inside in cc)
+        | inr past ↦ take_all k (drop behind log) (omega (arith, long, past)) ∙ sym (take_all n (drop behind log) (omega (arith, long, past, below)))
+      ]
+
+  -- as many as there are, or as were asked for
+  pub enough : (most : ℕ) → k ≡ min (length log - behind) most → take k (drop behind log) ≡ take most (drop behind log)
+  enough most e = let long = length-drop behind log in elim (cases_lt (length log - behind) most) [
+    | inl fewer ↦ take_all k (drop behind log) (omega (arith, long, e, fewer)) ∙ sym (take_all most (drop behind log) (omega (arith, long, fewer)))
+    | inr more ↦ (let same : k ≡ most = omega (arith, e, more) in ap (λ n. take n (drop behind log)) same)
+  ]
+
+-- the last configuration, where entries come behind a log
+from_on : (config : Config) (log entries : List Entry) → config_from config (log ++ entries) ≡ config_from (config_from config log) entries
+from_on config [] entries = refl
+from_on config (entry ∷ log) entries = from_on (config_behind config entry.item) log entries
+
+pub config_on : (log entries : List Entry) → config_of (log ++ entries) ≡ config_from (config_of log) entries
+config_on log entries = from_on no_members log entries
+
+-- one entry more
+pub one_config : (config : Config) (entries : List Entry) (i : ℕ) (entry : Entry) → i < length entries → get_or entries i entry ≡ entry
+    → config_from config (take (i + 1) entries) ≡ config_behind (config_from config (take i entries)) entry.item
+one_config config entries i entry inside here =
+    ap (config_from config) (take_more entries i entry inside ∙ ap (λ x. take i entries ++ x ∷ []) here) ∙ from_on config (take i entries) (entry ∷ [])
+
+-- the entries behind an index up to another
+pub between : (behind upto : ℕ) (log : List Entry) → behind ≤ upto → take (upto - behind) (drop behind log) ≡ drop behind (take upto log)
+between behind upto log rises = let e : behind + (upto - behind) ≡ upto = omega arith in sym (drop-take behind (upto - behind) log) ∙ ap (λ n. drop behind (take n log)) e
+
+-- up to an index that is kept, the log behind a step is the one before
+pub take_kept : (index keep : ℕ) (log entries : List Entry) → index ≤ keep → keep ≤ length log → take index (take keep log ++ entries) ≡ take index log
+take_kept index keep log entries below within =
+    let l = length-take-le keep log within in
+    take-append-le index (take keep log) entries (omega (arith, l, below)) ∙ take-take index keep log below

@@ -1,0 +1,15 @@
+pub mod Lists
+pub mod Behind
+pub mod Logs
+pub mod StepLaws
+pub mod RoundLaws
+pub mod Terms
+pub mod Joined
+pub mod RowLemmas
+pub mod Agreeing
+pub mod Elections
+pub mod Accepting
+pub mod Confirming
+pub mod Numbers
+pub mod Copying
+pub mod Keeping

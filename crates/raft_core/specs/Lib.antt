@@ -1,0 +1,14 @@
+pub mod Core
+pub mod Ahead
+pub mod Votes
+pub mod Appends
+pub mod Members
+pub mod Rounds
+pub mod Confirming
+pub mod Outcome
+pub mod Peer
+pub mod Commits
+pub mod Step
+pub mod Durable
+pub mod Laws
+pub mod Worked

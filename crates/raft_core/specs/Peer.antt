@@ -1,0 +1,47 @@
+-- A peer as the code keeps it: what it is beside its log, its log, and how many entries that can take without memory.
+use Rattle.std.specs.Prelude.{◌≡◌, ◌≤◌, ℕ, List, length, take, true, Result, Ok, Err, None, Some}
+use Rattle.raft_log.specs.declared.entry.Entry.{Entry}
+use Rattle.raft_log.specs.Log.{config_of, config_index}
+use Rattle.raft_core.specs.declared.effects.NotLeader.{NotLeader}
+use Rattle.raft_core.specs.declared.input.RaftInput.{RaftInput}
+use Rattle.raft_core.specs.declared.made.Outcome.{Outcome}
+use Rattle.raft_core.specs.declared.peer.RaftRoom.{RaftRoom}
+use Rattle.raft_core.specs.declared.state.PeerState.{PeerState}
+use Rattle.raft_core.specs.declared.view.PeerView.{PeerView}
+use Rattle.raft_core.specs.Ahead.{core_with}
+use Rattle.raft_core.specs.Core.{Core, is_ready}
+use Rattle.raft_core.specs.Outcome.{IsOutcome}
+use Rattle.raft_core.specs.Step.{refusal}
+
+abbrev pub Peer : Type 0
+Peer = PeerState × (List Entry × ℕ)
+
+abbrev pub core_of : Peer → Core
+core_of peer = core_with peer.0 peer.1.0
+
+-- the peer takes the input, the outcome is that of its step, and the log has room for the entries
+pub record IsMadeFor (peer : Peer) (input : RaftInput) (made : Outcome) : Type 0 where
+  pub takes : refusal (core_of peer) input ≡ None
+  pub outcome : IsOutcome (core_of peer) input made
+  pub spare : length made.entries.items ≤ peer.1.1
+
+-- what a room holds for the step of a peer: the refusal, where only a leader takes the input, else the step
+abbrev pub IsAnswerFor : Peer → RaftInput → Result Outcome NotLeader → Type 0
+IsAnswerFor peer input (Ok made) = IsMadeFor peer input made
+IsAnswerFor peer input (Err refused) = refusal (core_of peer) input ≡ Some refused
+
+abbrev pub IsRoomFor : Peer → RaftInput → RaftRoom → Type 0
+IsRoomFor peer input room = IsAnswerFor peer input room.made
+
+-- what is seen of a peer: its last configuration, and the last one that is committed
+abbrev pub view_of : Core → PeerView
+view_of core = record {
+  up = true;
+  role = core.role;
+  term = core.term;
+  commit = core.commit;
+  last = length core.log;
+  latest = record { index = config_index core.log; config = config_of core.log };
+  decided = record { index = config_index (take core.commit core.log); config = config_of (take core.commit core.log) };
+  ready = is_ready core;
+}

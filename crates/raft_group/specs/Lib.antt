@@ -1,0 +1,9 @@
+pub mod Group
+pub mod Facts
+pub mod Invariant
+pub mod Rounds
+pub mod Sound
+pub mod Moments
+pub mod Worked
+pub mod WorkedChanges
+pub mod WorkedLeaders
