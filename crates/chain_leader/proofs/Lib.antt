@@ -1,0 +1,10 @@
+pub mod Blind
+pub mod Alike
+pub mod Naming
+pub mod Proposing
+pub mod Sent
+pub mod Halves
+pub mod Modal
+pub mod Silence
+pub mod Doubling
+pub mod Rows

@@ -1,0 +1,10 @@
+pub mod Calls
+pub mod Rules
+pub mod Table
+pub mod Rows
+pub mod Leading
+pub mod Leader
+pub mod Laws
+pub mod Names
+pub mod Modes
+pub mod Worked

@@ -1,0 +1,17 @@
+pub mod State
+pub mod World
+pub mod Events
+pub mod Ledger
+pub mod Outside
+pub mod Next
+pub mod Places
+pub mod Answers
+pub mod Causes
+pub mod Course
+pub mod Founded
+pub mod Edges
+pub mod WorkedRun
+pub mod WorkedFence
+pub mod WorkedLate
+pub mod WorkedSeeing
+pub mod Invariant
