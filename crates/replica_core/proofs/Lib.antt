@@ -1,0 +1,4 @@
+pub mod Letters
+pub mod Founded
+pub mod StepLaws
+pub mod Hints

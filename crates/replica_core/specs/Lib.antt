@@ -1,0 +1,7 @@
+pub mod Spelling
+pub mod Replica
+pub mod Asks
+pub mod Letters
+pub mod Stepped
+pub mod Laws
+pub mod Worked

@@ -1,0 +1,4 @@
+pub mod Statement
+pub mod Caller
+pub mod Story
+pub mod Laws

@@ -1,0 +1,14 @@
+pub mod State
+pub mod After
+pub mod Lawful
+pub mod Journal
+pub mod Local
+pub mod Grouped
+pub mod Chained
+pub mod Dues
+pub mod Causes
+pub mod Small
+pub mod SmallSpelling
+pub mod Worked
+pub mod WorkedChain
+pub mod WorkedMove
