@@ -11,10 +11,10 @@ use Rattle.graph_model.specs.Ops.{halves_of, edges_of}
 use Rattle.part_keys.specs.declared.entry.PartEntry.{PartEntry}
 use Rattle.part_keys.specs.declared.entry.PartEntry.TheVariants.{Prime, Vertex, Read}
 use Rattle.part_keys.specs.Routing.{part_of, part_of_query}
-use Rattle.part_machine.specs.declared.kept.Outcome.{Outcome}
-use Rattle.part_machine.specs.declared.kept.Outcome.TheVariants as kept
-use Rattle.part_machine.specs.declared.applied.Applied.{Applied}
-use Rattle.part_machine.specs.declared.applied.Applied.TheVariants.{Again, Conflict, Skipped, Settled, Doubled, Closed, Aborted, Finished}
+use Rattle.part_rules.specs.declared.kept.Outcome.{Outcome}
+use Rattle.part_rules.specs.declared.kept.Outcome.TheVariants as kept
+use Rattle.part_rules.specs.declared.applied.Applied.{Applied}
+use Rattle.part_rules.specs.declared.applied.Applied.TheVariants.{Again, Conflict, Skipped, Settled, Doubled, Closed, Aborted, Finished}
 
 -- the Prime of a removal: each edge is to be absent
 abbrev pub removal : CallId → List EdgeId → PartEntry

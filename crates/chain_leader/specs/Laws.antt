@@ -8,7 +8,7 @@ use Rattle.part_keys.specs.declared.chain.ChainState.{ChainState}
 use Rattle.part_keys.specs.declared.chain.Policy.{Policy}
 use Rattle.part_keys.specs.declared.proposal.Proposal.{Proposal}
 use Rattle.part_keys.specs.declared.vid_kind.VidKind.{VidKind}
-use Rattle.part_machine.specs.Part.{Part}
+use Rattle.part_rules.specs.Part.{Part}
 use Rattle.chain_leader.specs.declared.body.ChainBody.{ChainBody}
 use Rattle.chain_leader.specs.declared.letter.Letter.{Letter}
 use Rattle.chain_leader.specs.declared.letter.Letter.TheVariants.{Cross}

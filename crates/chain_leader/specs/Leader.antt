@@ -14,9 +14,9 @@ use Rattle.part_keys.specs.declared.chain.Policy.{Policy}
 use Rattle.chain_leader.specs.declared.letter.Letter.{Letter}
 use Rattle.chain_leader.specs.declared.letter.Letter.TheVariants.{Cross}
 use Rattle.chain_leader.specs.Rules.{message, mode_for, next_try}
-use Rattle.part_machine.specs.declared.applied.Applied.{Applied}
-use Rattle.part_machine.specs.declared.applied.Applied.TheVariants.{Begun}
-use Rattle.part_machine.specs.Part.{Part}
+use Rattle.part_rules.specs.declared.applied.Applied.{Applied}
+use Rattle.part_rules.specs.declared.applied.Applied.TheVariants.{Begun}
+use Rattle.part_rules.specs.Part.{Part}
 use Rattle.chain_leader.specs.declared.body.ChainBody.{ChainBody}
 use Rattle.chain_leader.specs.declared.body.ChainBody.TheVariants.{Remote, Fence, Resume}
 

@@ -19,11 +19,11 @@ use Rattle.part_keys.specs.declared.proposal.Proposal.{Proposal}
 use Rattle.part_keys.specs.declared.proposal.Proposal.TheVariants.{Start, Made}
 use Rattle.part_keys.specs.declared.vid_kind.VidKind.{VidKind}
 use Rattle.part_keys.specs.Routing.{is_payload}
-use Rattle.part_machine.specs.declared.applied.Applied.{Applied}
-use Rattle.part_machine.specs.declared.applied.Applied.TheVariants.{Begun, Stale, Done, Fenced}
-use Rattle.part_machine.specs.Part.{Part}
-use Rattle.part_machine.specs.View.{view, at_once, chains_behind}
-use Rattle.part_machine.specs.Machine.{applied}
+use Rattle.part_rules.specs.declared.applied.Applied.{Applied}
+use Rattle.part_rules.specs.declared.applied.Applied.TheVariants.{Begun, Stale, Done, Fenced}
+use Rattle.part_rules.specs.Part.{Part}
+use Rattle.part_rules.specs.View.{view, at_once, chains_behind}
+use Rattle.part_rules.specs.Machine.{applied}
 use Rattle.chain_leader.specs.declared.body.ChainBody.{ChainBody}
 use Rattle.chain_leader.specs.declared.body.ChainBody.TheVariants as says
 use Rattle.chain_leader.specs.declared.letter.Letter.{Letter}

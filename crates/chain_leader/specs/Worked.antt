@@ -12,8 +12,8 @@ use Rattle.part_keys.specs.declared.chain.Policy.{Policy}
 use Rattle.part_keys.specs.declared.chain.Policy.TheVariants.{Forward, Cancel}
 use Rattle.part_keys.specs.declared.proposal.Proposal.TheVariants.{Start, Made}
 use Rattle.part_keys.specs.declared.entry.PartEntry.TheVariants.{Prime, Local, Double, Close, Abort, Remote}
-use Rattle.part_machine.specs.Part.{blank}
-use Rattle.part_machine.specs.Worked.{edge_to, both, edges, row, call, begun, doubled, settled}
+use Rattle.part_rules.specs.Part.{blank}
+use Rattle.part_rules.specs.Worked.{edge_to, both, edges, row, call, begun, doubled, settled}
 use Rattle.chain_leader.specs.declared.body.ChainBody.TheVariants as says
 use Rattle.chain_leader.specs.declared.letter.Letter.{Letter}
 use Rattle.chain_leader.specs.declared.letter.Letter.TheVariants.{Tell, Cross, Back, Again}

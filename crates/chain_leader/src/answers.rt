@@ -8,7 +8,7 @@ use crate::body::ChainBody;
 use crate::letter::Letter;
 use graph_model::{Answer, CallId};
 use part_keys::PartEntry;
-use part_machine::{Applied, Outcome};
+use part_rules::{Applied, Outcome};
 
 /// Whether the entry is a call's that writes.
 pub fn is_write(entry: &PartEntry) -> bool

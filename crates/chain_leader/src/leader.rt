@@ -16,7 +16,7 @@ use crate::table::{ChainTable, next_try};
 use graph_model::{CallId, EdgeHalves};
 use lists::NoMemory;
 use part_keys::{ChainMsg, PartEntry, Policy, PrimeRec, VidKind, is_payload};
-use part_machine::Applied;
+use part_rules::Applied;
 use std::alloc::Global;
 
 /// A leader: whether it has applied its own no-op, its policy, and the chains that it knows.
@@ -31,7 +31,7 @@ impl Leader {
     ghost use Rattle.std.specs.Prelude.{◌≡◌, ◌≤◌, ◌<◌, ◌-◌, ℕ, false, [], ◌∷◌, OnOk, OnErr, IfOk};
     ghost use Rattle.std.specs.Option.{option_copied, option_to_list};
     ghost use Rattle.part_keys.specs.declared.vid_kind.VidKind.{VidKind};
-    ghost use Rattle.part_machine.specs.Part.{Part};
+    ghost use Rattle.part_rules.specs.Part.{Part};
     ghost use Rattle.chain_leader.specs.declared.body.ChainBody.TheVariants as says;
     ghost use Rattle.chain_leader.specs.Leading.{idle, given_up, pulsed, taken, chain_in, forgetting, ruled_by, started};
     ghost use Rattle.chain_leader.specs.Leader.{leads, is_resume, StandsBehind, BeganBehind};

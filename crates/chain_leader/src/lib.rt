@@ -19,7 +19,7 @@
 //! that is taken up (`resumes`), and of an item that is applied the steps (`started`, `forgets`, `ruled`); neither has a
 //! call for the whole. `specs/Table`, `specs/Rows` and `specs/Leader` say how the program keeps what the definitions speak of.
 //!
-//! Below is `part_machine`; above is `chain_world`.
+//! Below is `part_rules`; above is `chain_world`.
 #![tactic(auto)]
 
 mod answers;

@@ -1,7 +1,7 @@
 //! What a leader does with the chains that start in its part.
 ghost use Rattle.std.specs.Prelude.{◌≡◌, ◌≤◌, ◌<◌, ◌-◌, OnOk, OnErr, IfOk};
 ghost use Rattle.chain_leader.specs.Rules.{added, message, mode_by, mode_for, on_primed, on_remote, give_up, resume, on_fence};
-ghost use Rattle.part_machine.specs.Machine.{mark};
+ghost use Rattle.part_rules.specs.Machine.{mark};
 
 use crate::table::ChainTable;
 use graph_model::{CallId, EdgeHalves, Half};

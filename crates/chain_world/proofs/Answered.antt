@@ -10,11 +10,11 @@ use Rattle.graph_model.specs.declared.op.Op.TheVariants.{PutEdges, DelEdges, Put
 use Rattle.graph_model.specs.Same.{is_unknown}
 use Rattle.part_keys.specs.declared.entry.PartEntry.{PartEntry}
 use Rattle.part_keys.specs.declared.entry.PartEntry.TheVariants.{Prime, Local, Double, Close, Abort, Remote, Fence, Vertex, Read}
-use Rattle.part_machine.specs.declared.applied.Applied.{Applied}
-use Rattle.part_machine.specs.declared.applied.Applied.TheVariants as told
-use Rattle.part_machine.specs.Part.{Part}
-use Rattle.part_machine.specs.Machine.{applied, vertex_written}
-use Rattle.part_machine.proofs.FoldsCases.{new_cases, prime_cases, local_cases, double_cases, abort_cases, close_cases, remote_cases, fence_cases}
+use Rattle.part_rules.specs.declared.applied.Applied.{Applied}
+use Rattle.part_rules.specs.declared.applied.Applied.TheVariants as told
+use Rattle.part_rules.specs.Part.{Part}
+use Rattle.part_rules.specs.Machine.{applied, vertex_written}
+use Rattle.part_rules.proofs.FoldsCases.{new_cases, prime_cases, local_cases, double_cases, abort_cases, close_cases, remote_cases, fence_cases}
 use Rattle.part_keys.specs.declared.vid_kind.VidKind.{VidKind}
 use Rattle.chain_leader.specs.Calls.{call_in}
 use Rattle.chain_world.specs.declared.packet.ChainEnd.{ChainEnd}

@@ -28,13 +28,13 @@ use Rattle.part_keys.specs.declared.chain.PrimeRec.{PrimeRec}
 use Rattle.part_keys.specs.declared.entry.PartEntry.{PartEntry}
 use Rattle.part_keys.specs.declared.entry.PartEntry.TheVariants.{Prime}
 use Rattle.part_keys.specs.Routing.{part_of, remote_of}
-use Rattle.part_machine.specs.declared.applied.Applied.{Applied}
-use Rattle.part_machine.specs.declared.applied.Applied.TheVariants.{Old, Again, Conflict, Skipped, Begun as BegunAt}
-use Rattle.part_machine.specs.declared.kept.Kept.{Kept}
-use Rattle.part_machine.specs.declared.kept.Outcome.{Outcome}
-use Rattle.part_machine.specs.declared.kept.Outcome.TheVariants as kept
-use Rattle.part_machine.specs.Part.{Part, chain_on_any}
-use Rattle.part_machine.specs.Machine.{keeping, taken_of, leaves_all, begun_at, beginning, primed_by, primed}
+use Rattle.part_rules.specs.declared.applied.Applied.{Applied}
+use Rattle.part_rules.specs.declared.applied.Applied.TheVariants.{Old, Again, Conflict, Skipped, Begun as BegunAt}
+use Rattle.part_rules.specs.declared.kept.Kept.{Kept}
+use Rattle.part_rules.specs.declared.kept.Outcome.{Outcome}
+use Rattle.part_rules.specs.declared.kept.Outcome.TheVariants as kept
+use Rattle.part_rules.specs.Part.{Part, chain_on_any}
+use Rattle.part_rules.specs.Machine.{keeping, taken_of, leaves_all, begun_at, beginning, primed_by, primed}
 use Rattle.chain_leader.specs.Calls.{part_of_op, answer_of, kept_answer}
 use Rattle.chain_world.specs.Ledger.{primed_steps}
 use Rattle.chain_world.specs.Course.{Primed, Course, Courses, has_edge, stands, with_course, course_of, coursed}

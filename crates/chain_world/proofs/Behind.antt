@@ -13,10 +13,10 @@ use Rattle.part_keys.specs.declared.proposal.Proposal.{Proposal}
 use Rattle.part_keys.specs.declared.proposal.Proposal.TheVariants.{Start, Made}
 use Rattle.part_keys.specs.declared.entry.PartEntry.{PartEntry}
 use Rattle.part_keys.specs.declared.entry.PartEntry.TheVariants as entry
-use Rattle.part_machine.specs.declared.applied.Applied.TheVariants as told
-use Rattle.part_machine.specs.Part.{Part, guard_of, number_of, all_written}
-use Rattle.part_machine.specs.Folded.{item_applied, folded}
-use Rattle.part_machine.proofs.FoldsCases.{fence_cases}
+use Rattle.part_rules.specs.declared.applied.Applied.TheVariants as told
+use Rattle.part_rules.specs.Part.{Part, guard_of, number_of, all_written}
+use Rattle.part_rules.specs.Folded.{item_applied, folded}
+use Rattle.part_rules.proofs.FoldsCases.{fence_cases}
 use Rattle.chain_world.specs.Places.{At}
 use Rattle.chain_world.specs.Course.{Aborted, Course, Courses, is_aborted, stands}
 use Rattle.chain_world.specs.Invariant.Discipline.{WasAnswered}

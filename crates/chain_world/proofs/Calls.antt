@@ -9,9 +9,9 @@ use Rattle.part_keys.specs.declared.chain.PrimeRec.{PrimeRec}
 use Rattle.part_keys.specs.declared.chain.Mode.TheVariants.{Put}
 use Rattle.part_keys.specs.declared.chain.Policy.{Policy}
 use Rattle.part_keys.specs.declared.entry.PartEntry.{PartEntry}
-use Rattle.part_machine.specs.Part.{Part}
-use Rattle.part_machine.specs.declared.applied.Applied.{Applied}
-use Rattle.part_machine.specs.declared.applied.Applied.TheVariants as told
+use Rattle.part_rules.specs.Part.{Part}
+use Rattle.part_rules.specs.declared.applied.Applied.{Applied}
+use Rattle.part_rules.specs.declared.applied.Applied.TheVariants as told
 use Rattle.chain_leader.specs.Rules.{Table, added, asks_once}
 use Rattle.chain_leader.specs.Leading.{and_then, resumes_all, forgetting, begins, ruled_by, Ruled}
 use Rattle.chain_world.specs.Invariant.Doubling.{RowsAre}

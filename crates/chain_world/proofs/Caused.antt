@@ -17,16 +17,16 @@ use Rattle.part_keys.specs.declared.proposal.Proposal.{Proposal}
 use Rattle.part_keys.specs.declared.proposal.Proposal.TheVariants.{Start, Members, Made, Blank}
 use Rattle.part_keys.specs.declared.entry.PartEntry.{PartEntry}
 use Rattle.part_keys.specs.declared.entry.PartEntry.TheVariants.{Prime, Local, Double, Close, Abort, Remote, Fence, Vertex, Read}
-use Rattle.part_machine.specs.declared.applied.Applied.{Applied}
-use Rattle.part_machine.specs.declared.applied.Applied.TheVariants.{Old, Again, Conflict, Skipped, Begun, Settled, Doubled, Closed, Aborted, Finished, Nothing}
-use Rattle.part_machine.specs.declared.kept.Kept.{Kept}
-use Rattle.part_machine.specs.declared.kept.Outcome.{Outcome}
-use Rattle.part_machine.specs.declared.kept.Outcome.TheVariants as kept
-use Rattle.part_machine.specs.Part.{Part}
-use Rattle.part_machine.specs.Machine.{keeping, with_outcome, settling, doubling, closing, aborting, beginning, vertex_gone, applied, vertex_written}
-use Rattle.part_machine.specs.Folded.{item_applied, folded}
-use Rattle.part_machine.proofs.FoldsCases.{prime_cases, local_cases, double_cases, close_cases, abort_cases, remote_cases, fence_cases}
-use Rattle.part_machine.proofs.FoldsLists.{folded_one_more}
+use Rattle.part_rules.specs.declared.applied.Applied.{Applied}
+use Rattle.part_rules.specs.declared.applied.Applied.TheVariants.{Old, Again, Conflict, Skipped, Begun, Settled, Doubled, Closed, Aborted, Finished, Nothing}
+use Rattle.part_rules.specs.declared.kept.Kept.{Kept}
+use Rattle.part_rules.specs.declared.kept.Outcome.{Outcome}
+use Rattle.part_rules.specs.declared.kept.Outcome.TheVariants as kept
+use Rattle.part_rules.specs.Part.{Part}
+use Rattle.part_rules.specs.Machine.{keeping, with_outcome, settling, doubling, closing, aborting, beginning, vertex_gone, applied, vertex_written}
+use Rattle.part_rules.specs.Folded.{item_applied, folded}
+use Rattle.part_rules.proofs.FoldsCases.{prime_cases, local_cases, double_cases, close_cases, abort_cases, remote_cases, fence_cases}
+use Rattle.part_rules.proofs.FoldsLists.{folded_one_more}
 use Rattle.chain_world.specs.Invariant.Causing.{Causes, IsCaused}
 use Rattle.chain_world.proofs.NewCalls.{new_cases}
 

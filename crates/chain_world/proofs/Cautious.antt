@@ -10,8 +10,8 @@ use Rattle.part_keys.specs.declared.chain.Mode.TheVariants.{Put, Doubled}
 use Rattle.part_keys.specs.declared.chain.Policy.{Policy}
 use Rattle.part_keys.specs.declared.chain.Policy.TheVariants.{Forward, Cancel}
 use Rattle.part_keys.specs.declared.entry.PartEntry.{PartEntry}
-use Rattle.part_machine.specs.Part.{Part}
-use Rattle.part_machine.specs.declared.applied.Applied.{Applied}
+use Rattle.part_rules.specs.Part.{Part}
+use Rattle.part_rules.specs.declared.applied.Applied.{Applied}
 use Rattle.graph_model.specs.declared.call_id.CallId.{CallId}
 use Rattle.chain_leader.specs.declared.body.ChainBody.{ChainBody}
 use Rattle.chain_leader.specs.declared.body.ChainBody.TheVariants as says

@@ -8,11 +8,11 @@ use Rattle.graph_model.specs.declared.half.Half.{Half}
 use Rattle.part_keys.specs.declared.chain.PrimeRec.{PrimeRec}
 use Rattle.part_keys.specs.declared.entry.PartEntry.{PartEntry}
 use Rattle.part_keys.specs.declared.entry.PartEntry.TheVariants.{Prime, Local, Double, Close, Abort, Remote, Fence, Vertex, Read}
-use Rattle.part_machine.specs.declared.applied.Applied.{Applied}
-use Rattle.part_machine.specs.declared.applied.Applied.TheVariants as told
-use Rattle.part_machine.specs.Part.{Part}
-use Rattle.part_machine.specs.Machine.{applied}
-use Rattle.part_machine.proofs.FoldsCases.{prime_cases, local_cases, double_cases, abort_cases, close_cases, remote_cases}
+use Rattle.part_rules.specs.declared.applied.Applied.{Applied}
+use Rattle.part_rules.specs.declared.applied.Applied.TheVariants as told
+use Rattle.part_rules.specs.Part.{Part}
+use Rattle.part_rules.specs.Machine.{applied}
+use Rattle.part_rules.proofs.FoldsCases.{prime_cases, local_cases, double_cases, abort_cases, close_cases, remote_cases}
 use Rattle.chain_world.specs.Course.{Fate, Primed, Doubled, Settled, Closed, Aborted, Course, Courses, with_course, with_fate, with_wrote, course_of, coursed, is_aborted}
 
 -- the entry is a Remote of the chain that is done; the entry is its Abort

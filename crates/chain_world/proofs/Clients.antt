@@ -7,10 +7,10 @@ use Rattle.graph_model.specs.declared.call.Call.{Call}
 use Rattle.graph_model.specs.declared.call.CallState.TheVariants.{Open, Begun}
 use Rattle.graph_model.specs.declared.call_id.CallId.{CallId}
 use Rattle.graph_model.specs.Ops.{query_of}
-use Rattle.part_machine.specs.declared.kept.Kept.{Kept}
-use Rattle.part_machine.specs.declared.kept.Outcome.{Outcome}
-use Rattle.part_machine.specs.declared.kept.Outcome.TheVariants as kept
-use Rattle.part_machine.specs.Machine.{with_outcome}
+use Rattle.part_rules.specs.declared.kept.Kept.{Kept}
+use Rattle.part_rules.specs.declared.kept.Outcome.{Outcome}
+use Rattle.part_rules.specs.declared.kept.Outcome.TheVariants as kept
+use Rattle.part_rules.specs.Machine.{with_outcome}
 use Rattle.chain_leader.specs.Calls.{part_of_op}
 use Rattle.chain_world.specs.Invariant.Sound.{IsOutcome, IsAbove, IsCallOf, IsUntouched, AreCalls}
 use Rattle.chain_world.proofs.Setting.{Moves}

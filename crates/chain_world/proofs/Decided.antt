@@ -14,11 +14,11 @@ use Rattle.part_keys.specs.declared.proposal.Proposal.{Proposal}
 use Rattle.part_keys.specs.declared.proposal.Proposal.TheVariants.{Start, Members, Made, Blank}
 use Rattle.part_keys.specs.declared.entry.PartEntry.{PartEntry}
 use Rattle.part_keys.specs.declared.entry.PartEntry.TheVariants as entry
-use Rattle.part_machine.specs.declared.applied.Applied.TheVariants as told
-use Rattle.part_machine.specs.Part.{Part, guard_of}
-use Rattle.part_machine.specs.Folded.{item_applied, folded}
-use Rattle.part_machine.proofs.FoldsAt.{edge_keys}
-use Rattle.part_machine.proofs.FoldsLists.{folded_one_more}
+use Rattle.part_rules.specs.declared.applied.Applied.TheVariants as told
+use Rattle.part_rules.specs.Part.{Part, guard_of}
+use Rattle.part_rules.specs.Folded.{item_applied, folded}
+use Rattle.part_rules.proofs.FoldsAt.{edge_keys}
+use Rattle.part_rules.proofs.FoldsLists.{folded_one_more}
 use Rattle.chain_world.specs.Places.{At}
 use Rattle.chain_world.specs.Course.{Fate, Primed, Doubled, Settled, Closed, Aborted, Course, Courses, is_aborted, recorded, stands}
 use Rattle.chain_world.specs.Invariant.ChainFacts.{GoOn}

@@ -11,10 +11,10 @@ use Rattle.graph_model.proofs.Runs.{run_append}
 use Rattle.part_keys.specs.declared.proposal.Proposal.{Proposal}
 use Rattle.part_keys.specs.declared.proposal.Proposal.TheVariants.{Made}
 use Rattle.part_keys.specs.declared.entry.PartEntry.{PartEntry}
-use Rattle.part_machine.specs.declared.applied.Applied.{Applied}
-use Rattle.part_machine.specs.Part.{Part}
-use Rattle.part_machine.specs.Folded.{item_applied, folded}
-use Rattle.part_machine.proofs.FoldsLists.{folded_one_more}
+use Rattle.part_rules.specs.declared.applied.Applied.{Applied}
+use Rattle.part_rules.specs.Part.{Part}
+use Rattle.part_rules.specs.Folded.{item_applied, folded}
+use Rattle.part_rules.proofs.FoldsLists.{folded_one_more}
 use Rattle.chain_world.specs.Ledger.{Ledger, caller_of, machine_of, next_of, next_applied, steps_of_item, decides}
 use Rattle.chain_world.specs.Course.{Fate, Primed, Doubled, Settled, Closed, Aborted, Courses, stands, is_aborted, recorded}
 use Rattle.chain_world.specs.Invariant.ChainFacts.{GoOn}

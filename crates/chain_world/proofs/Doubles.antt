@@ -12,9 +12,9 @@ use Rattle.part_keys.specs.declared.proposal.Proposal.{Proposal}
 use Rattle.part_keys.specs.declared.proposal.Proposal.TheVariants.{Start, Members, Made, Blank}
 use Rattle.part_keys.specs.declared.entry.PartEntry.{PartEntry}
 use Rattle.part_keys.specs.declared.entry.PartEntry.TheVariants as entry
-use Rattle.part_machine.specs.declared.applied.Applied.{Applied}
-use Rattle.part_machine.specs.Part.{Part}
-use Rattle.part_machine.specs.Machine as machines
+use Rattle.part_rules.specs.declared.applied.Applied.{Applied}
+use Rattle.part_rules.specs.Part.{Part}
+use Rattle.part_rules.specs.Machine as machines
 use Rattle.chain_leader.specs.declared.body.ChainBody.{ChainBody}
 use Rattle.chain_leader.specs.declared.body.ChainBody.TheVariants as says
 use Rattle.chain_leader.specs.Rules.{give_up, Table}
@@ -34,7 +34,7 @@ use Rattle.chain_world.proofs.Moving.{set_split}
 use Rattle.chain_world.proofs.Worlds.{after_safe, start_safe, always_safe}
 use Rattle.part_keys.specs.declared.chain.PrimeRec.{PrimeRec}
 use Rattle.part_keys.specs.declared.chain.Mode.TheVariants as mode
-use Rattle.part_machine.specs.declared.applied.Applied.TheVariants as told
+use Rattle.part_rules.specs.declared.applied.Applied.TheVariants as told
 use Rattle.chain_world.specs.Invariant.Doubling.{IsOf, RowsAre, AreDoubling}
 use Rattle.chain_world.specs.Invariant.Doubling.{ShowsGivenUp}
 use Rattle.chain_world.proofs.Doubling.{is_double, stands_of, of_on, moved_doubling, take_doubling}
@@ -42,10 +42,10 @@ use Rattle.chain_world.proofs.Calls.{rows_insert, rows_forgetting, ruled_are}
 use Rattle.chain_world.proofs.Tables.{give_up_cases}
 use Rattle.chain_world.proofs.Fronts.{behind_more}
 use Rattle.chain_world.proofs.Decided.{lists}
-use Rattle.part_machine.proofs.FoldsCases.{double_cases}
+use Rattle.part_rules.proofs.FoldsCases.{double_cases}
 use Rattle.raft_log.specs.Decided.{count_term}
 use Rattle.chain_world.specs.World.{are_at_most}
-use Rattle.part_machine.specs.declared.applied.Applied.{Applied}
+use Rattle.part_rules.specs.declared.applied.Applied.{Applied}
 
 module _ (ids : VidKind) (parts : ℕ) (s : Chains) (safe : IsSafe parts s) (given : ℕ → ℕ → CallId → Type 0) (are : AreDoubling parts s given) where
   -- Apply

@@ -19,7 +19,7 @@ use Rattle.part_keys.specs.declared.proposal.Proposal.TheVariants.{Start, Member
 use Rattle.part_keys.specs.declared.entry.PartEntry.{PartEntry}
 use Rattle.part_keys.specs.declared.entry.PartEntry.TheVariants as entry
 use Rattle.part_keys.specs.Routing.{is_payload}
-use Rattle.part_machine.specs.Part.{Part}
+use Rattle.part_rules.specs.Part.{Part}
 use Rattle.chain_leader.specs.declared.body.ChainBody.{ChainBody}
 use Rattle.chain_leader.specs.declared.body.ChainBody.TheVariants as says
 use Rattle.chain_leader.specs.Calls.{is_write}

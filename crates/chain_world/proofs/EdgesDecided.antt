@@ -14,15 +14,15 @@ use Rattle.part_keys.specs.Routing.{part_of, remote_of}
 use Rattle.part_keys.specs.declared.chain.PrimeRec.{PrimeRec}
 use Rattle.part_keys.specs.declared.entry.PartEntry.{PartEntry}
 use Rattle.part_keys.specs.declared.entry.PartEntry.TheVariants.{Prime, Local, Double, Close, Abort, Remote, Fence, Vertex, Read}
-use Rattle.part_machine.specs.declared.applied.Applied.{Applied}
-use Rattle.part_machine.specs.declared.applied.Applied.TheVariants as told
-use Rattle.part_machine.specs.Part.{Part, chain_on_any, is_stale, guard_of, number_of}
-use Rattle.part_machine.specs.Machine as table
-use Rattle.part_machine.proofs.FoldsCases.{prime_cases, local_cases, double_cases, abort_cases, close_cases, remote_cases, fence_cases}
-use Rattle.part_machine.proofs.FoldsChains.{none_any}
-use Rattle.part_machine.proofs.FoldsOn.{on_none}
-use Rattle.part_machine.proofs.FoldsRise.{vertex_keeps}
-use Rattle.part_machine.proofs.FoldsTaken.{taken_on}
+use Rattle.part_rules.specs.declared.applied.Applied.{Applied}
+use Rattle.part_rules.specs.declared.applied.Applied.TheVariants as told
+use Rattle.part_rules.specs.Part.{Part, chain_on_any, is_stale, guard_of, number_of}
+use Rattle.part_rules.specs.Machine as table
+use Rattle.part_rules.proofs.FoldsCases.{prime_cases, local_cases, double_cases, abort_cases, close_cases, remote_cases, fence_cases}
+use Rattle.part_rules.proofs.FoldsChains.{none_any}
+use Rattle.part_rules.proofs.FoldsOn.{on_none}
+use Rattle.part_rules.proofs.FoldsRise.{vertex_keeps}
+use Rattle.part_rules.proofs.FoldsTaken.{taken_on}
 use Rattle.chain_world.specs.Course.{Fate, Primed, Doubled, Settled, Closed, Aborted, Course, Courses, stands, is_doubled, is_settled, is_aborted, has_edge, with_course, with_fate, with_wrote, course_of, coursed}
 use Rattle.chain_world.specs.Invariant.ChainFacts.{AreRouted}
 use Rattle.chain_world.specs.Invariant.Discipline.{IsRemoteOf, MeetsEntry}

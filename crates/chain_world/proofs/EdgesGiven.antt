@@ -11,8 +11,8 @@ use Rattle.graph_model.specs.declared.half.Half.{Half}
 use Rattle.maps.specs.Lists.{at_key}
 use Rattle.maps.proofs.Pairs.{at_key_out, has_key_of}
 use Rattle.part_keys.specs.Routing.{part_of}
-use Rattle.part_machine.specs.FoldLaws.{by}
-use Rattle.part_machine.specs.Part.{Part}
+use Rattle.part_rules.specs.FoldLaws.{by}
+use Rattle.part_rules.specs.Part.{Part}
 use Rattle.chain_world.specs.Course.{Fate, Primed, Course, Courses, stands, has_edge, with_course}
 use Rattle.chain_world.specs.Edges.{is_shown, gives_in, gives_out, given, IsLast, IsUngiven, AreLast}
 use Rattle.chain_world.proofs.EdgesLast.{given_not, given_half, given_by, given_set, same_last, same_ungiven}

@@ -13,9 +13,9 @@ use Rattle.graph_model.specs.Contents.{Contents, row_of, out_written}
 use Rattle.maps.specs.Lists.{at_key}
 use Rattle.maps.proofs.Pairs.{at_key_out}
 use Rattle.part_keys.specs.Routing.{part_of}
-use Rattle.part_machine.specs.Part.{Part}
-use Rattle.part_machine.specs.Machine as table
-use Rattle.part_machine.proofs.FoldsAt.{out_at}
+use Rattle.part_rules.specs.Part.{Part}
+use Rattle.part_rules.specs.Machine as table
+use Rattle.part_rules.proofs.FoldsAt.{out_at}
 use Rattle.chain_world.specs.Course.{has_edge}
 use Rattle.chain_world.specs.Invariant.Sound.{AreHalves, row_at}
 use Rattle.chain_world.proofs.EdgesSet.{set_at, set_here, set_apart, set_same}

@@ -18,9 +18,9 @@ use Rattle.maps.proofs.Pairs.{at_key_in}
 use Rattle.maps.proofs.Writing.{get-put_all, get-with_all}
 use Rattle.part_keys.specs.Routing.{part_of}
 use Rattle.part_keys.specs.declared.in_half.InHalf.{InHalf}
-use Rattle.part_machine.specs.Part.{Part, number_of, number_in, is_fresh}
-use Rattle.part_machine.specs.Machine as table
-use Rattle.part_machine.proofs.FoldsAt.{edge_keys, in_keys, by, in_fresh, in_other}
+use Rattle.part_rules.specs.Part.{Part, number_of, number_in, is_fresh}
+use Rattle.part_rules.specs.Machine as table
+use Rattle.part_rules.proofs.FoldsAt.{edge_keys, in_keys, by, in_fresh, in_other}
 use Rattle.chain_world.specs.Course.{has_edge}
 use Rattle.chain_world.specs.Invariant.Sound.{AreHalves, row_at, kept_of}
 use Rattle.chain_world.proofs.EdgesHalves.{same_tags, same_out, halves_same}

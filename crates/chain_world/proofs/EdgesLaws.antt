@@ -12,8 +12,8 @@ use Rattle.part_keys.specs.Routing.{part_of}
 use Rattle.part_keys.specs.declared.chain.PrimeRec.{PrimeRec}
 use Rattle.part_keys.specs.declared.proposal.Proposal.{Proposal}
 use Rattle.part_keys.specs.declared.proposal.Proposal.TheVariants.{Start, Members, Made, Blank}
-use Rattle.part_machine.specs.Folded.{item_applied, folded}
-use Rattle.part_machine.proofs.FoldsLists.{folded_one_more}
+use Rattle.part_rules.specs.Folded.{item_applied, folded}
+use Rattle.part_rules.proofs.FoldsLists.{folded_one_more}
 use Rattle.chain_world.specs.Course.{Courses, no_courses, item_coursed, recorded}
 use Rattle.chain_world.specs.Invariant.Discipline.{MayDecide, MeetsItem}
 use Rattle.chain_world.specs.Edges.{AreLast, AreEqualHalves}

@@ -16,9 +16,9 @@ use Rattle.maps.specs.Keys.{has_key}
 use Rattle.maps.proofs.Keys.{same_itself}
 use Rattle.part_keys.specs.Routing.{part_of}
 use Rattle.part_keys.specs.declared.chain.PrimeRec.{PrimeRec}
-use Rattle.part_machine.specs.Part.{Part, chain_on, chain_on_any}
-use Rattle.part_machine.proofs.FoldsAt.{edge_keys}
-use Rattle.part_machine.proofs.FoldsOn.{on_is, on_none}
+use Rattle.part_rules.specs.Part.{Part, chain_on, chain_on_any}
+use Rattle.part_rules.proofs.FoldsAt.{edge_keys}
+use Rattle.part_rules.proofs.FoldsOn.{on_is, on_none}
 use Rattle.chain_world.specs.Course.{Course, Courses, stands, is_doubled, has_edge, prime_of}
 use Rattle.chain_world.specs.Invariant.Sound.{Holds, HasStanding, chain_of}
 

@@ -14,7 +14,7 @@ use Rattle.maps.specs.Keys.{IsKeyOrder}
 use Rattle.maps.proofs.Keys.{same_is, told_back}
 use Rattle.maps.proofs.Updates.{get-with_at}
 use Rattle.part_keys.specs.Routing.{part_of}
-use Rattle.part_machine.specs.Part.{Part}
+use Rattle.part_rules.specs.Part.{Part}
 use Rattle.chain_world.specs.Invariant.Sound.{AreHalves}
 use Rattle.chain_world.proofs.EdgesHalves.{same_out, same_inn}
 use Rattle.chain_world.proofs.EdgesSet.{set_at, set_here, set_apart}

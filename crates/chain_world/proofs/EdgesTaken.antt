@@ -16,10 +16,10 @@ use Rattle.maps.proofs.Finding.{missing_same, has_all_same}
 use Rattle.maps.proofs.Keys.{same_itself, same_is}
 use Rattle.part_keys.specs.Routing.{part_of, all_from, all_into, remote_of, routes_to}
 use Rattle.part_keys.specs.declared.entry.PartEntry.TheVariants.{Prime}
-use Rattle.part_machine.specs.Part.{Part}
-use Rattle.part_machine.specs.Machine.{taken_of, leaves_all}
-use Rattle.part_machine.proofs.FoldsAt.{edge_keys}
-pub use Rattle.part_machine.proofs.FoldsTaken.{taken_on}
+use Rattle.part_rules.specs.Part.{Part}
+use Rattle.part_rules.specs.Machine.{taken_of, leaves_all}
+use Rattle.part_rules.proofs.FoldsAt.{edge_keys}
+pub use Rattle.part_rules.proofs.FoldsTaken.{taken_on}
 use Rattle.chain_world.specs.Course.{has_edge}
 use Rattle.chain_world.specs.Invariant.ChainFacts.{AreRouted}
 use Rattle.chain_world.specs.Invariant.Sound.{AreHalves}

@@ -22,9 +22,9 @@ use Rattle.maps.proofs.Found.{entries_apart}
 use Rattle.maps.proofs.Entries.{read_same}
 use Rattle.part_keys.specs.Routing.{part_of, part_of_query}
 use Rattle.part_keys.specs.declared.in_half.InHalf.{InHalf}
-use Rattle.part_machine.specs.Part.{Part}
-use Rattle.part_machine.specs.View.{row_here, rows_here, view}
-use Rattle.part_machine.proofs.FoldsAt.{edge_keys, in_keys}
+use Rattle.part_rules.specs.Part.{Part}
+use Rattle.part_rules.specs.View.{row_here, rows_here, view}
+use Rattle.part_rules.proofs.FoldsAt.{edge_keys, in_keys}
 use Rattle.chain_world.specs.Invariant.Sound.{AreHalves, row_at}
 use Rattle.chain_world.proofs.EdgesTags.{vid_keys}
 

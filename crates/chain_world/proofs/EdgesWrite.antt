@@ -9,10 +9,10 @@ use Rattle.graph_model.specs.declared.edge_id.EdgeId.{EdgeId}
 use Rattle.graph_model.specs.declared.half.Half.{Half}
 use Rattle.maps.proofs.Pairs.{at_key_in, at_key_out}
 use Rattle.part_keys.specs.Routing.{part_of}
-use Rattle.part_machine.specs.FoldLaws.{by}
-use Rattle.part_machine.specs.Machine as table
-use Rattle.part_machine.specs.Part.{Part, number_of}
-use Rattle.part_machine.proofs.FoldsAt.{out_at, in_fresh, in_other}
+use Rattle.part_rules.specs.FoldLaws.{by}
+use Rattle.part_rules.specs.Machine as table
+use Rattle.part_rules.specs.Part.{Part, number_of}
+use Rattle.part_rules.proofs.FoldsAt.{out_at, in_fresh, in_other}
 use Rattle.chain_world.specs.Course.{Fate, Course, Courses, stands, has_edge, with_course}
 use Rattle.chain_world.specs.Invariant.ChainFacts.{AreRouted}
 use Rattle.chain_world.specs.Edges.{is_shown, gives_in, gives_out, given, IsLast, IsUngiven, AreLast}

@@ -15,10 +15,10 @@ use Rattle.maps.proofs.Keys.{nat_keys, same_or_apart}
 use Rattle.maps.proofs.Updates.{insert_here, insert_apart, remove_here}
 use Rattle.part_keys.specs.declared.chain.PrimeRec.{PrimeRec}
 use Rattle.part_keys.specs.Routing.{part_of}
-use Rattle.part_machine.specs.declared.kept.Outcome.{Outcome}
-use Rattle.part_machine.specs.declared.kept.Outcome.TheVariants as kept
-use Rattle.part_machine.specs.Part.{Part}
-use Rattle.part_machine.specs.Machine.{with_outcome, settling, doubling, closing, aborting, out_written}
+use Rattle.part_rules.specs.declared.kept.Outcome.{Outcome}
+use Rattle.part_rules.specs.declared.kept.Outcome.TheVariants as kept
+use Rattle.part_rules.specs.Part.{Part}
+use Rattle.part_rules.specs.Machine.{with_outcome, settling, doubling, closing, aborting, out_written}
 use Rattle.chain_world.specs.Course.{Fate, Primed, Doubled, Settled, Closed, Aborted, Course, Courses, stands, is_settled, is_aborted, with_course, with_fate}
 use Rattle.chain_world.specs.Invariant.ChainFacts.{AreChains}
 use Rattle.chain_world.specs.Invariant.Sound.{chain_of, IsServed, AreKept, Holds, kept_of}

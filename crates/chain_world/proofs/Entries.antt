@@ -17,12 +17,12 @@ use Rattle.part_keys.specs.declared.proposal.Proposal.TheVariants.{Start, Member
 use Rattle.part_keys.specs.declared.entry.PartEntry.{PartEntry}
 use Rattle.part_keys.specs.declared.entry.PartEntry.TheVariants.{Prime, Local, Double, Close, Abort, Remote, Fence, Vertex, Read}
 use Rattle.part_keys.specs.Routing.{part_of}
-use Rattle.part_machine.specs.declared.applied.Applied.{Applied}
-use Rattle.part_machine.specs.declared.applied.Applied.TheVariants as answered
-use Rattle.part_machine.specs.Part.{Part, number_of, all_written}
-use Rattle.part_machine.specs.Machine.{applied, fenced}
-use Rattle.part_machine.specs.Folded.{item_applied}
-use Rattle.part_machine.proofs.FoldsCases.{local_cases, double_cases, close_cases, abort_cases, fence_cases}
+use Rattle.part_rules.specs.declared.applied.Applied.{Applied}
+use Rattle.part_rules.specs.declared.applied.Applied.TheVariants as answered
+use Rattle.part_rules.specs.Part.{Part, number_of, all_written}
+use Rattle.part_rules.specs.Machine.{applied, fenced}
+use Rattle.part_rules.specs.Folded.{item_applied}
+use Rattle.part_rules.proofs.FoldsCases.{local_cases, double_cases, close_cases, abort_cases, fence_cases}
 use Rattle.chain_leader.specs.Calls.{answer_of}
 use Rattle.chain_world.specs.Ledger.{steps_of_entry, steps_of_item}
 use Rattle.chain_world.specs.Course.{Courses, is_aborted, has_edge, with_wrote, coursed, item_coursed}

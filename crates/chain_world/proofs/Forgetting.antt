@@ -10,9 +10,9 @@ use Rattle.part_keys.specs.declared.chain.PrimeRec.{PrimeRec}
 use Rattle.part_keys.specs.declared.chain.ChainState.{ChainState}
 use Rattle.part_keys.specs.declared.entry.PartEntry.{PartEntry}
 use Rattle.part_keys.specs.declared.entry.PartEntry.TheVariants as entry
-use Rattle.part_machine.specs.declared.applied.Applied.{Applied}
-use Rattle.part_machine.specs.declared.applied.Applied.TheVariants as told
-use Rattle.part_machine.specs.Part.{Part}
+use Rattle.part_rules.specs.declared.applied.Applied.{Applied}
+use Rattle.part_rules.specs.declared.applied.Applied.TheVariants as told
+use Rattle.part_rules.specs.Part.{Part}
 use Rattle.chain_leader.specs.declared.letter.Letter.{Letter}
 use Rattle.chain_leader.specs.Rules.{Table, forget}
 use Rattle.chain_leader.specs.Leading.{back_of, answers_of, forgetting, begins, ruled_by, Ruled, quiet}

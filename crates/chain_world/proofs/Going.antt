@@ -7,7 +7,7 @@ use Rattle.part_keys.specs.declared.proposal.Proposal.{Proposal}
 use Rattle.part_keys.specs.declared.proposal.Proposal.TheVariants.{Start, Members, Made, Blank}
 use Rattle.part_keys.specs.declared.entry.PartEntry.{PartEntry}
 use Rattle.part_keys.specs.declared.entry.PartEntry.TheVariants as entry
-use Rattle.part_machine.specs.Part.{guard_of}
+use Rattle.part_rules.specs.Part.{guard_of}
 use Rattle.chain_leader.specs.declared.body.ChainBody.{ChainBody}
 use Rattle.chain_leader.specs.declared.body.ChainBody.TheVariants as says
 use Rattle.chain_world.specs.declared.packet.ChainEnd.{ChainEnd}

@@ -17,8 +17,8 @@ use Rattle.part_keys.specs.declared.chain.PrimeRec.{PrimeRec}
 use Rattle.part_keys.specs.declared.proposal.Proposal.{Proposal}
 use Rattle.part_keys.specs.declared.proposal.Proposal.TheVariants.{Made}
 use Rattle.part_keys.specs.declared.entry.PartEntry.{PartEntry}
-use Rattle.part_machine.specs.declared.applied.Applied.{Applied}
-use Rattle.part_machine.specs.Folded.{item_applied, folded}
+use Rattle.part_rules.specs.declared.applied.Applied.{Applied}
+use Rattle.part_rules.specs.Folded.{item_applied, folded}
 use Rattle.chain_leader.specs.Rules.{Table}
 use Rattle.chain_world.specs.Places.{At}
 use Rattle.chain_world.specs.Ledger.{Ledger}

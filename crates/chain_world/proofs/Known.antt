@@ -6,9 +6,9 @@ use Rattle.part_keys.specs.declared.chain.PrimeRec.{PrimeRec}
 use Rattle.part_keys.specs.declared.entry.PartEntry.TheVariants.{Prime}
 use Rattle.part_keys.specs.declared.proposal.Proposal.{Proposal}
 use Rattle.part_keys.specs.declared.proposal.Proposal.TheVariants.{Made}
-use Rattle.part_machine.specs.Part.{Part}
-use Rattle.part_machine.specs.Machine.{begun_at}
-use Rattle.part_machine.specs.Folded.{folded}
+use Rattle.part_rules.specs.Part.{Part}
+use Rattle.part_rules.specs.Machine.{begun_at}
+use Rattle.part_rules.specs.Folded.{folded}
 use Rattle.chain_world.specs.Places.{At}
 use Rattle.chain_world.specs.Course.{Courses}
 use Rattle.chain_world.specs.Founded.{AreFounded, AreKnown}

@@ -13,8 +13,8 @@ use Rattle.graph_model.specs.declared.graph_step.GStep.TheVariants.{Invoke, Repl
 use Rattle.graph_model.specs.State.{start}
 use Rattle.graph_model.specs.Run.{Run, is_outward, trace}
 use Rattle.part_keys.specs.Routing.{part_of_query}
-use Rattle.part_machine.specs.Part.{number_in}
-use Rattle.part_machine.specs.View.{view}
+use Rattle.part_rules.specs.Part.{number_in}
+use Rattle.part_rules.specs.View.{view}
 use Rattle.chain_world.specs.Ledger.{Ledger, blank_ledger, machine_of, reply_steps}
 use Rattle.chain_world.specs.Course.{Courses, no_courses}
 use Rattle.chain_world.specs.Invariant.ChainFacts.{GoOn}

@@ -13,12 +13,12 @@ use Rattle.part_keys.specs.declared.proposal.Proposal.{Proposal}
 use Rattle.part_keys.specs.declared.proposal.Proposal.TheVariants.{Start, Members, Made, Blank}
 use Rattle.part_keys.specs.declared.entry.PartEntry.{PartEntry}
 use Rattle.part_keys.specs.declared.entry.PartEntry.TheVariants.{Prime, Local, Double, Close, Abort, Remote, Fence, Vertex, Read}
-use Rattle.part_machine.specs.declared.applied.Applied.{Applied}
-use Rattle.part_machine.specs.declared.applied.Applied.TheVariants as told
-use Rattle.part_machine.specs.Part.{Part}
-use Rattle.part_machine.specs.Machine.{begun_at, applied}
-use Rattle.part_machine.specs.Folded.{item_applied}
-use Rattle.part_machine.proofs.FoldsCases.{prime_cases}
+use Rattle.part_rules.specs.declared.applied.Applied.{Applied}
+use Rattle.part_rules.specs.declared.applied.Applied.TheVariants as told
+use Rattle.part_rules.specs.Part.{Part}
+use Rattle.part_rules.specs.Machine.{begun_at, applied}
+use Rattle.part_rules.specs.Folded.{item_applied}
+use Rattle.part_rules.proofs.FoldsCases.{prime_cases}
 use Rattle.chain_world.specs.Ledger.{Ledger, machine_of, next_of, call_of, call_of_item, call_at, caller_of, decides}
 use Rattle.chain_world.specs.Course.{Fate, Settled, Doubled, Closed, Aborted, Course, Courses, with_course, with_fate, with_wrote, course_of, coursed, item_coursed, recorded}
 use Rattle.chain_world.specs.Invariant.Sound.{AreNamed}

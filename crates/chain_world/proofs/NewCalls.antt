@@ -10,11 +10,11 @@ use Rattle.graph_model.specs.declared.op.Op.{Op}
 use Rattle.graph_model.specs.declared.op.Op.TheVariants.{PutEdges, DelEdges, PutVertex, DelVertex, Read as ReadOp}
 use Rattle.graph_model.specs.Ops.{is_op, are_edges, halves_of, is_careful, is_edge_op, query_of}
 use Rattle.part_keys.specs.declared.entry.PartEntry.TheVariants.{Prime}
-use Rattle.part_machine.specs.declared.applied.Applied.{Applied}
-use Rattle.part_machine.specs.declared.applied.Applied.TheVariants.{Old, Again}
-use Rattle.part_machine.specs.declared.kept.Kept.{Kept}
-use Rattle.part_machine.specs.Part.{Part}
-use Rattle.part_machine.specs.Machine.{where_new, where_new_to}
+use Rattle.part_rules.specs.declared.applied.Applied.{Applied}
+use Rattle.part_rules.specs.declared.applied.Applied.TheVariants.{Old, Again}
+use Rattle.part_rules.specs.declared.kept.Kept.{Kept}
+use Rattle.part_rules.specs.Part.{Part}
+use Rattle.part_rules.specs.Machine.{where_new, where_new_to}
 use Rattle.chain_leader.specs.Calls.{entry_of}
 use Rattle.chain_world.specs.Invariant.Sound.{IsAbove}
 

@@ -9,10 +9,10 @@ use Rattle.graph_model.specs.declared.call_id.CallId.{CallId}
 use Rattle.graph_model.specs.declared.found.Found.{Found}
 use Rattle.graph_model.specs.Same.{is_unknown}
 use Rattle.part_keys.specs.declared.entry.PartEntry.{PartEntry}
-use Rattle.part_machine.specs.declared.kept.Outcome.{Outcome}
-use Rattle.part_machine.specs.declared.kept.Outcome.TheVariants as kept_as
-use Rattle.part_machine.specs.declared.applied.Applied.{Applied}
-use Rattle.part_machine.specs.declared.applied.Applied.TheVariants as told
+use Rattle.part_rules.specs.declared.kept.Outcome.{Outcome}
+use Rattle.part_rules.specs.declared.kept.Outcome.TheVariants as kept_as
+use Rattle.part_rules.specs.declared.applied.Applied.{Applied}
+use Rattle.part_rules.specs.declared.applied.Applied.TheVariants as told
 use Rattle.chain_leader.specs.Calls.{call_in, kept_answer, answer_of}
 
 -- an entry never tells a view

@@ -9,8 +9,8 @@ use Rattle.graph_model.specs.Same.{is_unknown}
 use Rattle.part_keys.specs.declared.proposal.Proposal.{Proposal}
 use Rattle.part_keys.specs.declared.proposal.Proposal.TheVariants.{Members}
 use Rattle.part_keys.specs.declared.vid_kind.VidKind.{VidKind}
-use Rattle.part_machine.specs.Part.{Part}
-use Rattle.part_machine.specs.Folded.{folded}
+use Rattle.part_rules.specs.Part.{Part}
+use Rattle.part_rules.specs.Folded.{folded}
 use Rattle.chain_leader.specs.declared.body.ChainBody.TheVariants as says
 use Rattle.chain_leader.specs.Leading.{read, given_up, pulsed}
 use Rattle.chain_world.specs.declared.packet.ChainEnd.TheVariants as ends

@@ -12,8 +12,8 @@ use Rattle.graph_model.specs.Same.{is_pending, is_unknown}
 use Rattle.graph_model.specs.Ops.{query_of}
 use Rattle.graph_model.proofs.SameLemmas.{right}
 use Rattle.part_keys.specs.declared.entry.PartEntry.{PartEntry}
-use Rattle.part_machine.specs.declared.kept.Outcome.{Outcome}
-use Rattle.part_machine.specs.declared.kept.Outcome.TheVariants as kept
+use Rattle.part_rules.specs.declared.kept.Outcome.{Outcome}
+use Rattle.part_rules.specs.declared.kept.Outcome.TheVariants as kept
 use Rattle.chain_leader.specs.Calls.{call_in, kept_answer}
 use Rattle.chain_world.specs.Course.{Fate, Primed, Doubled, Settled, Closed, Aborted, Course, Courses, is_doubled, is_aborted, with_course}
 use Rattle.chain_world.specs.Invariant.ChainFacts.{IsFurther, GoOn}

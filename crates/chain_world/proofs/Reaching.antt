@@ -15,8 +15,8 @@ use Rattle.maps.specs.Maps.{altered}
 use Rattle.maps.proofs.Keys.{nat_keys, same_or_apart, same_itself}
 use Rattle.maps.proofs.Updates.{insert_here, insert_apart, remove_apart, altered_here, altered_apart}
 use Rattle.part_keys.specs.Routing.{part_of}
-use Rattle.part_machine.specs.declared.kept.Kept.{Kept}
-use Rattle.part_machine.specs.Part.{Part}
+use Rattle.part_rules.specs.declared.kept.Kept.{Kept}
+use Rattle.part_rules.specs.Part.{Part}
 use Rattle.chain_world.specs.Course.{Course, Courses, with_course, prime_of}
 use Rattle.chain_world.specs.Invariant.ChainFacts.{AreChains, GoOn}
 use Rattle.chain_world.specs.Invariant.Sound.{AreKept, Holds, kept_of}

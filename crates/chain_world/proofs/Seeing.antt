@@ -19,7 +19,7 @@ use Rattle.graph_model.proofs.SameLemmas.{answer_is}
 use Rattle.part_keys.specs.Routing.{routes_to, part_of_query}
 use Rattle.part_keys.specs.declared.entry.PartEntry.{PartEntry}
 use Rattle.part_keys.specs.declared.entry.PartEntry.TheVariants as entry
-use Rattle.part_machine.specs.View.{view}
+use Rattle.part_rules.specs.View.{view}
 use Rattle.chain_leader.specs.declared.body.ChainBody.{ChainBody}
 use Rattle.chain_leader.specs.declared.body.ChainBody.TheVariants as says
 use Rattle.chain_leader.specs.Calls.{entry_of, part_of_op}

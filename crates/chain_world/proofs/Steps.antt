@@ -11,9 +11,9 @@ use Rattle.part_keys.specs.declared.proposal.Proposal.{Proposal}
 use Rattle.part_keys.specs.declared.proposal.Proposal.TheVariants.{Start, Members, Made, Blank}
 use Rattle.part_keys.specs.declared.entry.PartEntry.{PartEntry}
 use Rattle.part_keys.specs.declared.entry.PartEntry.TheVariants.{Prime, Local, Double, Close, Abort, Remote, Fence, Vertex, Read}
-use Rattle.part_machine.specs.declared.applied.Applied.{Applied}
-use Rattle.part_machine.specs.declared.applied.Applied.TheVariants.{Conflict, Skipped, Begun, Settled, Doubled, Closed, Aborted, Finished}
-use Rattle.part_machine.specs.Part.{Part}
+use Rattle.part_rules.specs.declared.applied.Applied.{Applied}
+use Rattle.part_rules.specs.declared.applied.Applied.TheVariants.{Conflict, Skipped, Begun, Settled, Doubled, Closed, Aborted, Finished}
+use Rattle.part_rules.specs.Part.{Part}
 use Rattle.chain_world.specs.Ledger.{primed_steps, ended_steps, vertex_steps, remote_steps, steps_of_entry, steps_of_item}
 use Rattle.chain_world.specs.Invariant.Discipline.{IsOneOf, IsInvoked}
 use Rattle.chain_world.specs.Invariant.Sound.{AreNoted}

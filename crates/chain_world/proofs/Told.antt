@@ -14,14 +14,14 @@ use Rattle.graph_model.specs.declared.op.Op.TheVariants.{PutEdges, DelEdges, Put
 use Rattle.part_keys.specs.declared.chain.PrimeRec.{PrimeRec}
 use Rattle.part_keys.specs.declared.entry.PartEntry.{PartEntry}
 use Rattle.part_keys.specs.declared.entry.PartEntry.TheVariants.{Prime, Local, Double, Close, Abort, Remote, Fence, Vertex, Read}
-use Rattle.part_machine.specs.declared.applied.Applied.{Applied}
-use Rattle.part_machine.specs.declared.applied.Applied.TheVariants.{Old, Again, Conflict, Skipped, Begun, Settled, Doubled, Closed, Aborted, Stale, Done, Fenced, Finished, Nothing}
-use Rattle.part_machine.specs.declared.kept.Kept.{Kept}
-use Rattle.part_machine.specs.declared.kept.Outcome.{Outcome}
-use Rattle.part_machine.specs.declared.kept.Outcome.TheVariants as kept
-use Rattle.part_machine.specs.Part.{Part, chain_on_any}
-use Rattle.part_machine.specs.Machine.{keeping, leaves_all, beginning, primed_by, where_new, vertex_written, applied}
-use Rattle.part_machine.specs.Folded.{folded}
+use Rattle.part_rules.specs.declared.applied.Applied.{Applied}
+use Rattle.part_rules.specs.declared.applied.Applied.TheVariants.{Old, Again, Conflict, Skipped, Begun, Settled, Doubled, Closed, Aborted, Stale, Done, Fenced, Finished, Nothing}
+use Rattle.part_rules.specs.declared.kept.Kept.{Kept}
+use Rattle.part_rules.specs.declared.kept.Outcome.{Outcome}
+use Rattle.part_rules.specs.declared.kept.Outcome.TheVariants as kept
+use Rattle.part_rules.specs.Part.{Part, chain_on_any}
+use Rattle.part_rules.specs.Machine.{keeping, leaves_all, beginning, primed_by, where_new, vertex_written, applied}
+use Rattle.part_rules.specs.Folded.{folded}
 use Rattle.chain_leader.specs.Calls.{call_in, answer_of, kept_answer}
 use Rattle.chain_world.specs.Ledger.{Ledger}
 use Rattle.chain_world.specs.Invariant.Discipline.{WasTold}

@@ -28,11 +28,11 @@ use Rattle.maps.proofs.Keys.{told_back}
 use Rattle.graph_model.proofs.SameLemmas.{right}
 use Rattle.part_keys.specs.declared.entry.PartEntry.TheVariants.{Vertex}
 use Rattle.part_keys.specs.Routing.{part_of}
-use Rattle.part_machine.specs.declared.applied.Applied.{Applied}
-use Rattle.part_machine.specs.declared.kept.Outcome.{Outcome}
-use Rattle.part_machine.specs.declared.kept.Outcome.TheVariants as kept
-use Rattle.part_machine.specs.Part.{Part}
-use Rattle.part_machine.specs.Machine.{where_new, keeping, tag_put, vertex_gone, vertex_written}
+use Rattle.part_rules.specs.declared.applied.Applied.{Applied}
+use Rattle.part_rules.specs.declared.kept.Outcome.{Outcome}
+use Rattle.part_rules.specs.declared.kept.Outcome.TheVariants as kept
+use Rattle.part_rules.specs.Part.{Part}
+use Rattle.part_rules.specs.Machine.{where_new, keeping, tag_put, vertex_gone, vertex_written}
 use Rattle.chain_leader.specs.Calls.{entry_of, part_of_op, answer_of, kept_answer}
 use Rattle.chain_world.specs.Ledger.{vertex_steps}
 use Rattle.chain_world.specs.Course.{Courses, coursed}

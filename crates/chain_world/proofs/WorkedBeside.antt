@@ -1,13 +1,13 @@
 -- The run of two leaders of one part, worked event by event.
 use Rattle.chain_leader.specs.Leading.{Applies, on_item}
-use Rattle.part_machine.specs.declared.applied.Applied.{Applied}
-use Rattle.part_machine.specs.Worked.{tagged}
-use Rattle.part_machine.specs.Part.{Part, blank}
+use Rattle.part_rules.specs.declared.applied.Applied.{Applied}
+use Rattle.part_rules.specs.Worked.{tagged}
+use Rattle.part_rules.specs.Part.{Part, blank}
 use Rattle.chain_world.specs.WorkedRun.{posted, leader, nobody, one_more}
 use Rattle.graph_model.proofs.SameLemmas.{answer_itself}
 use Rattle.graph_model.specs.Same.{is_same_answer}
-use Rattle.part_machine.specs.Folded.{folded}
-use Rattle.part_machine.specs.View.{view}
+use Rattle.part_rules.specs.Folded.{folded}
+use Rattle.part_rules.specs.View.{view}
 use Rattle.std.proofs.Common.{◌≡◌, List, [], ◌∷◌, None, true, refl, ap, ◌∙◌}
 use Rattle.std.specs.FinMap.{empty}
 use Rattle.graph_model.specs.declared.answer.Answer.TheVariants as said
@@ -16,9 +16,9 @@ use Rattle.part_keys.specs.declared.chain.Policy.TheVariants.{Forward}
 use Rattle.part_keys.specs.declared.vid_kind.VidKind.TheVariants as kinds
 use Rattle.part_keys.specs.declared.entry.PartEntry.TheVariants.{Vertex}
 use Rattle.part_keys.specs.declared.proposal.Proposal.TheVariants.{Start, Made}
-use Rattle.part_machine.proofs.Computing.{computing}
-use Rattle.part_machine.specs.declared.applied.Applied.TheVariants as told
-use Rattle.part_machine.specs.Machine as machines
+use Rattle.part_rules.proofs.Computing.{computing}
+use Rattle.part_rules.specs.declared.applied.Applied.TheVariants as told
+use Rattle.part_rules.specs.Machine as machines
 use Rattle.chain_leader.specs.declared.letter.Letter.TheVariants.{Tell}
 use Rattle.chain_leader.specs.declared.body.ChainBody.TheVariants as says
 use Rattle.chain_world.specs.declared.packet.ChainEnd.TheVariants as ends

@@ -7,14 +7,14 @@ use Rattle.graph_model.specs.declared.graph_step.GStep.TheVariants as step
 use Rattle.part_keys.specs.declared.chain.Policy.TheVariants.{Forward, Cancel}
 use Rattle.part_keys.specs.declared.entry.PartEntry.TheVariants.{Abort, Remote, Fence}
 use Rattle.part_keys.specs.declared.proposal.Proposal.TheVariants.{Start, Made}
-use Rattle.part_machine.specs.declared.applied.Applied.{Applied}
-use Rattle.part_machine.specs.declared.applied.Applied.TheVariants as told
-use Rattle.part_machine.specs.Part.{Part, blank}
-use Rattle.part_machine.specs.Machine as machines
-use Rattle.part_machine.specs.Machine.{writes}
-use Rattle.part_machine.specs.Folded.{folded}
-use Rattle.part_machine.specs.Worked.{both, edges}
-use Rattle.part_machine.proofs.Computing.{computing}
+use Rattle.part_rules.specs.declared.applied.Applied.{Applied}
+use Rattle.part_rules.specs.declared.applied.Applied.TheVariants as told
+use Rattle.part_rules.specs.Part.{Part, blank}
+use Rattle.part_rules.specs.Machine as machines
+use Rattle.part_rules.specs.Machine.{writes}
+use Rattle.part_rules.specs.Folded.{folded}
+use Rattle.part_rules.specs.Worked.{both, edges}
+use Rattle.part_rules.proofs.Computing.{computing}
 use Rattle.chain_leader.specs.declared.body.ChainBody.TheVariants as says
 use Rattle.chain_leader.specs.declared.letter.Letter.TheVariants.{Tell, Cross, Back}
 use Rattle.chain_leader.specs.Leading.{Taken, Applies, taken, on_item}

@@ -25,7 +25,7 @@ use Rattle.graph_model.specs.declared.graph_step.GStep.TheVariants.{Invoke, Repl
 use Rattle.graph_model.specs.declared.call_id.CallId.{CallId}
 use Rattle.raft_log.specs.declared.config.Config.{Config}
 use Rattle.part_keys.specs.declared.chain.Policy.{Policy}
-use Rattle.part_machine.specs.Folded.{folded}
+use Rattle.part_rules.specs.Folded.{folded}
 use Rattle.chain_world.specs.Invariant.Protocol.{IsKept}
 use Rattle.chain_world.specs.Invariant.Safe.{IsSafe}
 use Rattle.chain_world.proofs.Ledgers.{blank_sound}

@@ -17,11 +17,11 @@ use Rattle.maps.proofs.Keys.{same_or_apart}
 use Rattle.part_keys.specs.declared.entry.PartEntry.{PartEntry}
 use Rattle.part_keys.specs.declared.entry.PartEntry.TheVariants.{Remote, Fence}
 use Rattle.part_keys.specs.Routing.{part_of}
-use Rattle.part_machine.specs.declared.applied.Applied.{Applied}
-use Rattle.part_machine.specs.declared.applied.Applied.TheVariants.{Stale, Done}
-use Rattle.part_machine.specs.Part.{Part, number_of, guard_of, is_stale, is_fresh}
-use Rattle.part_machine.specs.Machine.{raising, in_written, remoted, fenced}
-use Rattle.part_machine.proofs.FoldsCases.{remote_cases, fence_cases}
+use Rattle.part_rules.specs.declared.applied.Applied.{Applied}
+use Rattle.part_rules.specs.declared.applied.Applied.TheVariants.{Stale, Done}
+use Rattle.part_rules.specs.Part.{Part, number_of, guard_of, is_stale, is_fresh}
+use Rattle.part_rules.specs.Machine.{raising, in_written, remoted, fenced}
+use Rattle.part_rules.proofs.FoldsCases.{remote_cases, fence_cases}
 use Rattle.chain_leader.specs.Calls.{answer_of}
 use Rattle.chain_world.specs.Ledger.{remote_steps, steps_of_entry}
 use Rattle.chain_world.specs.Course.{Course, Courses, has_edge, stands, is_settled, is_aborted, with_course, with_wrote, prime_of, coursed}

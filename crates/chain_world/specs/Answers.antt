@@ -14,8 +14,8 @@ use Rattle.graph_model.specs.Views.{view_of}
 use Rattle.part_keys.specs.declared.proposal.Proposal.{Proposal}
 use Rattle.part_keys.specs.declared.proposal.Proposal.TheVariants.{Made}
 use Rattle.part_keys.specs.declared.entry.PartEntry.{PartEntry}
-use Rattle.part_machine.specs.declared.applied.Applied.{Applied}
-use Rattle.part_machine.specs.Folded.{item_applied, folded}
+use Rattle.part_rules.specs.declared.applied.Applied.{Applied}
+use Rattle.part_rules.specs.Folded.{item_applied, folded}
 use Rattle.chain_leader.specs.Calls.{answer_of}
 use Rattle.chain_world.specs.Ledger.{Ledger}
 

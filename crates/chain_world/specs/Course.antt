@@ -13,9 +13,9 @@ use Rattle.part_keys.specs.declared.proposal.Proposal.{Proposal}
 use Rattle.part_keys.specs.declared.proposal.Proposal.TheVariants.{Made}
 use Rattle.part_keys.specs.declared.entry.PartEntry.{PartEntry}
 use Rattle.part_keys.specs.declared.entry.PartEntry.TheVariants.{Prime, Local, Double, Close, Abort, Remote}
-use Rattle.part_machine.specs.declared.applied.Applied.{Applied}
-use Rattle.part_machine.specs.declared.applied.Applied.TheVariants as told
-use Rattle.part_machine.specs.Part.{Part}
+use Rattle.part_rules.specs.declared.applied.Applied.{Applied}
+use Rattle.part_rules.specs.declared.applied.Applied.TheVariants as told
+use Rattle.part_rules.specs.Part.{Part}
 use Rattle.chain_world.specs.Ledger.{Ledger, next_applied}
 
 -- how far a chain is: its Prime stands; it stands and its out-halves are written; a Local or a Close ended it, all halves

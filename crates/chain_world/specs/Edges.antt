@@ -9,8 +9,8 @@ use Rattle.graph_model.specs.declared.val.Val.{Val}
 use Rattle.part_keys.specs.declared.in_half.InHalf.{InHalf}
 use Rattle.maps.specs.Lists.{at_key}
 use Rattle.part_keys.specs.Routing.{part_of}
-use Rattle.part_machine.specs.FoldLaws.{by}
-use Rattle.part_machine.specs.Part.{Part, chain_on}
+use Rattle.part_rules.specs.FoldLaws.{by}
+use Rattle.part_rules.specs.Part.{Part, chain_on}
 use Rattle.part_keys.specs.declared.vid_kind.VidKind.{VidKind}
 use Rattle.chain_world.specs.Course.{Fate, Doubled, Settled, Closed, Course, Courses, stands, has_edge}
 use Rattle.chain_world.specs.declared.event.ChainEvent.{ChainEvent}

@@ -10,11 +10,11 @@ use Rattle.part_keys.specs.declared.proposal.Proposal.{Proposal}
 use Rattle.part_keys.specs.declared.proposal.Proposal.TheVariants.{Made}
 use Rattle.part_keys.specs.declared.entry.PartEntry.{PartEntry}
 use Rattle.part_keys.specs.declared.entry.PartEntry.TheVariants.{Prime, Local, Double, Close, Abort, Remote, Fence, Vertex, Read}
-use Rattle.part_machine.specs.declared.applied.Applied.{Applied}
-use Rattle.part_machine.specs.declared.applied.Applied.TheVariants.{Conflict, Skipped, Begun, Settled, Doubled, Closed, Aborted, Finished}
-use Rattle.part_machine.specs.Part.{Part}
-use Rattle.part_machine.specs.Machine.{writes}
-use Rattle.part_machine.specs.Folded.{item_applied, folded}
+use Rattle.part_rules.specs.declared.applied.Applied.{Applied}
+use Rattle.part_rules.specs.declared.applied.Applied.TheVariants.{Conflict, Skipped, Begun, Settled, Doubled, Closed, Aborted, Finished}
+use Rattle.part_rules.specs.Part.{Part}
+use Rattle.part_rules.specs.Machine.{writes}
+use Rattle.part_rules.specs.Folded.{item_applied, folded}
 
 -- the graph steps so far, and each part's decided list: items with the term of the leader that made each
 pub record Ledger : Type 0 where

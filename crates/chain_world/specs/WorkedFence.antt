@@ -10,7 +10,7 @@ use Rattle.part_keys.specs.declared.chain.Policy.TheVariants.{Cancel}
 use Rattle.part_keys.specs.declared.entry.PartEntry.TheVariants.{Prime, Abort, Remote, Fence}
 use Rattle.part_keys.specs.declared.proposal.Proposal.{Proposal}
 use Rattle.part_keys.specs.declared.proposal.Proposal.TheVariants.{Start, Made}
-use Rattle.part_machine.specs.Worked.{both, edges}
+use Rattle.part_rules.specs.Worked.{both, edges}
 use Rattle.chain_leader.specs.declared.body.ChainBody.TheVariants as says
 use Rattle.chain_leader.specs.Rules.{Table}
 use Rattle.part_keys.specs.declared.vid_kind.VidKind.TheVariants as kinds

@@ -7,7 +7,7 @@ use Rattle.part_keys.specs.declared.entry.PartEntry.TheVariants.{Prime, Local, R
 use Rattle.part_keys.specs.declared.proposal.Proposal.{Proposal}
 use Rattle.part_keys.specs.declared.proposal.Proposal.TheVariants.{Start, Made}
 use Rattle.part_keys.specs.declared.vid_kind.VidKind.TheVariants as kinds
-use Rattle.part_machine.specs.Worked.{both}
+use Rattle.part_rules.specs.Worked.{both}
 use Rattle.chain_leader.specs.declared.body.ChainBody.TheVariants as says
 use Rattle.chain_world.specs.declared.packet.ChainEnd.{ChainEnd}
 use Rattle.chain_world.specs.declared.packet.ChainEnd.TheVariants as ends

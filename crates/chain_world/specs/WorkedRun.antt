@@ -15,7 +15,7 @@ use Rattle.part_keys.specs.declared.chain.Policy.TheVariants.{Forward}
 use Rattle.part_keys.specs.declared.entry.PartEntry.TheVariants.{Prime, Local, Remote}
 use Rattle.part_keys.specs.declared.proposal.Proposal.{Proposal}
 use Rattle.part_keys.specs.declared.proposal.Proposal.TheVariants.{Start, Made}
-use Rattle.part_machine.specs.Worked.{edge_to, both, row, call}
+use Rattle.part_rules.specs.Worked.{edge_to, both, row, call}
 use Rattle.chain_leader.specs.declared.body.ChainBody.{ChainBody}
 use Rattle.chain_leader.specs.declared.body.ChainBody.TheVariants as says
 use Rattle.chain_leader.specs.Rules.{Table}

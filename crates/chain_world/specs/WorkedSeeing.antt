@@ -18,7 +18,7 @@ use Rattle.part_keys.specs.declared.entry.PartEntry.TheVariants.{Vertex, Read}
 use Rattle.part_keys.specs.declared.proposal.Proposal.{Proposal}
 use Rattle.part_keys.specs.declared.proposal.Proposal.TheVariants.{Start, Made}
 use Rattle.part_keys.specs.declared.vid_kind.VidKind.TheVariants as kinds
-use Rattle.part_machine.specs.Worked.{row, call}
+use Rattle.part_rules.specs.Worked.{row, call}
 use Rattle.chain_leader.specs.declared.body.ChainBody.TheVariants as says
 use Rattle.chain_world.specs.declared.packet.ChainEnd.TheVariants as ends
 use Rattle.chain_world.specs.declared.event.ChainEvent.{ChainEvent}

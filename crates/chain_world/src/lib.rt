@@ -15,7 +15,7 @@
 //! ledger stays sound (`Discipline`, `Sound`); and what holds between leaders, packets and lists makes each decision meet it
 //! (`Protocol`, `Safe`).
 //!
-//! Below are a leader's rules (`chain_leader`) and the parts (`part_machine`); above is the replicated world, whose runs are
+//! Below are a leader's rules (`chain_leader`) and the parts (`part_rules`); above is the replicated world, whose runs are
 //! such runs.
 #![tactic(auto)]
 

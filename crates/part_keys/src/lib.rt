@@ -12,7 +12,7 @@
 //! each (`specs/Spelling`), no spelling begins another, and what is no entry's spelling is refused at the first field that
 //! doesn't fit (`specs/Reading`).
 //!
-//! Below are the bytes of `graph_bytes`, the values and calls of `graph_model`, and the configurations of `raft_log`; above is `part_machine`.
+//! Below are the bytes of `graph_bytes`, the values and calls of `graph_model`, and the configurations of `raft_log`; above is `part_rules`.
 #![tactic(auto)]
 
 mod chain;

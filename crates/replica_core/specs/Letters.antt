@@ -3,8 +3,8 @@ use Rattle.std.specs.Prelude.{ℕ, suc, ◌==◌, ◌||◌, not, Bool, false, Li
 use Rattle.std.specs.List.{filter_map, list_any}
 use Rattle.std.specs.FinMap.{contains_key}
 use Rattle.part_keys.specs.declared.proposal.Proposal.{Proposal}
-use Rattle.part_machine.specs.Part.{Part}
-use Rattle.part_machine.specs.Folded.{item_applied}
+use Rattle.part_rules.specs.Part.{Part}
+use Rattle.part_rules.specs.Folded.{item_applied}
 use Rattle.chain_leader.specs.declared.body.ChainBody.{ChainBody}
 use Rattle.chain_leader.specs.declared.body.ChainBody.TheVariants as says
 use Rattle.chain_leader.specs.declared.letter.Letter.{Letter}

@@ -11,8 +11,8 @@ use Rattle.graph_model.specs.declared.call_id.CallId.{CallId}
 use Rattle.graph_model.specs.declared.answer.Answer.{Answer}
 use Rattle.part_keys.specs.declared.proposal.Proposal.{Proposal}
 use Rattle.part_keys.specs.declared.vid_kind.VidKind.{VidKind}
-use Rattle.part_machine.specs.Part.{Part}
-use Rattle.part_machine.specs.Folded.{folded}
+use Rattle.part_rules.specs.Part.{Part}
+use Rattle.part_rules.specs.Folded.{folded}
 use Rattle.chain_leader.specs.Leading.{Leading, idle}
 use Rattle.replica_core.specs.declared.packet.Place.{Place}
 use Rattle.part_keys.specs.Spelled.{Spelling}

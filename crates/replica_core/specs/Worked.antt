@@ -13,7 +13,7 @@ use Rattle.graph_model.specs.declared.vid.Vid.TheVariants.{Num}
 use Rattle.part_keys.specs.declared.entry.PartEntry.{PartEntry}
 use Rattle.part_keys.specs.declared.vid_kind.VidKind.TheVariants as kinds
 use Rattle.part_keys.specs.declared.entry.PartEntry.TheVariants.{Local, Read, Vertex}
-use Rattle.part_machine.specs.Worked.{both, call}
+use Rattle.part_rules.specs.Worked.{both, call}
 use Rattle.chain_leader.specs.declared.body.About.TheVariants as about
 use Rattle.chain_leader.specs.declared.body.ChainBody.{ChainBody}
 use Rattle.chain_leader.specs.declared.body.ChainBody.TheVariants as says

@@ -9,9 +9,9 @@ use Rattle.raft_core.proofs.Lists.{all_both, all_weaker}
 use Rattle.part_keys.specs.declared.entry.PartEntry.{PartEntry}
 use Rattle.part_keys.specs.declared.proposal.Proposal.{Proposal}
 use Rattle.part_keys.specs.declared.proposal.Proposal.TheVariants.{Start, Members, Made, Blank}
-use Rattle.part_machine.specs.Machine as machines
-use Rattle.part_machine.specs.Part.{Part}
-use Rattle.part_machine.specs.Folded.{folded, item_applied as item_folded}
+use Rattle.part_rules.specs.Machine as machines
+use Rattle.part_rules.specs.Part.{Part}
+use Rattle.part_rules.specs.Folded.{folded, item_applied as item_folded}
 use Rattle.chain_leader.specs.declared.letter.Letter.{Letter}
 use Rattle.chain_leader.specs.declared.letter.Letter.TheVariants.{Tell, Cross, Back, Again}
 use Rattle.chain_leader.specs.declared.body.ChainBody.{ChainBody}

@@ -10,7 +10,7 @@ use Rattle.raft_core.specs.Step.{stepped as raft_stepped}
 use Rattle.raft_core.proofs.Lists.{all_both, all_of-map, all_through-map, all_of-filter}
 use Rattle.raft_group.specs.Group.{Group, Round, rounds_after}
 use Rattle.raft_group.specs.Facts.{ConfirmsWell}
-use Rattle.part_machine.specs.Part.{Part}
+use Rattle.part_rules.specs.Part.{Part}
 use Rattle.chain_leader.specs.declared.letter.Letter.{Letter}
 use Rattle.chain_leader.specs.Leading.{Leading}
 use Rattle.chain_world.specs.declared.event.ChainEvent.{ChainEvent}

@@ -11,8 +11,8 @@ use Rattle.raft_core.proofs.Lists.{all_both, all_weaker}
 use Rattle.raft_group.specs.Group.{Group, decided_after}
 use Rattle.raft_group.specs.Facts.{pairs_of, AgreesWith}
 use Rattle.part_keys.specs.declared.proposal.Proposal.{Proposal}
-use Rattle.part_machine.specs.Part.{Part}
-use Rattle.part_machine.specs.Folded.{folded}
+use Rattle.part_rules.specs.Part.{Part}
+use Rattle.part_rules.specs.Folded.{folded}
 use Rattle.chain_leader.specs.declared.letter.Letter.{Letter}
 use Rattle.chain_leader.specs.Leading.{Leading}
 use Rattle.chain_world.specs.declared.event.ChainEvent.{ChainEvent}

@@ -6,8 +6,8 @@ use Rattle.std.proofs.lemmas.Option.{same_Some, none-some}
 use Rattle.std.proofs.lemmas.Bool.{cond-true, cond-false, and_from, eq-eqb, ne_eqb, le-leb, lt-ltb}
 use Rattle.part_keys.specs.declared.chain.Policy.{Policy}
 use Rattle.part_keys.specs.declared.proposal.Proposal.{Proposal}
-use Rattle.part_machine.specs.Folded.{folded, folded_from, item_applied as item_folded}
-use Rattle.part_machine.specs.Part.{Part, blank}
+use Rattle.part_rules.specs.Folded.{folded, folded_from, item_applied as item_folded}
+use Rattle.part_rules.specs.Part.{Part, blank}
 use Rattle.part_keys.specs.declared.vid_kind.VidKind.{VidKind}
 use Rattle.chain_world.proofs.Occurring.{after_is}
 use Rattle.chain_world.specs.declared.event.ChainEvent.TheVariants.{Lead, Take, Apply}

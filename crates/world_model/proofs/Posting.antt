@@ -12,8 +12,8 @@ use Rattle.raft_core.proofs.Lists.{all_of-map, all_through-map, all_of-filter_ma
 use Rattle.raft_group.specs.Group.{Group, sent_by, with_step}
 use Rattle.raft_group.proofs.Places.{all_places}
 use Rattle.part_keys.specs.declared.proposal.Proposal.{Proposal}
-use Rattle.part_machine.specs.Part.{Part}
-use Rattle.part_machine.specs.Folded.{item_applied}
+use Rattle.part_rules.specs.Part.{Part}
+use Rattle.part_rules.specs.Folded.{item_applied}
 use Rattle.chain_leader.specs.declared.letter.Letter.{Letter}
 use Rattle.chain_leader.specs.declared.letter.Letter.TheVariants.{Tell, Cross, Back, Again}
 use Rattle.chain_leader.specs.Leading.{Leading, Taken, on_item}

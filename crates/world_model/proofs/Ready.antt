@@ -13,8 +13,8 @@ use Rattle.raft_group.proofs.Places.{get_take, get_drop}
 use Rattle.raft_group.proofs.Led.{stands_map}
 use Rattle.part_keys.specs.declared.proposal.Proposal.{Proposal}
 use Rattle.part_keys.specs.declared.proposal.Proposal.TheVariants.{Start, Members, Made, Blank}
-use Rattle.part_machine.specs.Part.{Part}
-use Rattle.part_machine.specs.Folded.{item_applied as item_folded}
+use Rattle.part_rules.specs.Part.{Part}
+use Rattle.part_rules.specs.Folded.{item_applied as item_folded}
 use Rattle.chain_leader.specs.Leading.{Leading, on_item, on_item_by}
 use Rattle.replica_core.specs.declared.packet.Place.{Place}
 use Rattle.replica_core.specs.Spelling.{valued, values_of}

@@ -5,9 +5,9 @@ use Rattle.std.specs.List.{AllByRecursion}
 use Rattle.graph_model.specs.declared.answer.Answer.TheVariants.{Shown}
 use Rattle.graph_model.specs.declared.call_id.CallId.{CallId}
 use Rattle.graph_model.specs.declared.query.Query.{Query}
-use Rattle.part_machine.specs.Part.{Part}
-use Rattle.part_machine.specs.View.{view}
-use Rattle.part_machine.specs.Folded.{folded}
+use Rattle.part_rules.specs.Part.{Part}
+use Rattle.part_rules.specs.View.{view}
+use Rattle.part_rules.specs.Folded.{folded}
 use Rattle.chain_leader.specs.declared.body.ChainBody.TheVariants as says
 use Rattle.chain_leader.specs.Leading.{read}
 use Rattle.chain_world.specs.declared.event.ChainEvent.{ChainEvent}

@@ -9,8 +9,8 @@ use Rattle.graph_model.specs.declared.answer.Answer.{Answer}
 use Rattle.graph_model.specs.declared.call_id.CallId.{CallId}
 use Rattle.part_keys.specs.declared.entry.PartEntry.{PartEntry}
 use Rattle.part_keys.specs.declared.entry.PartEntry.TheVariants as entry
-use Rattle.part_machine.specs.declared.applied.Applied.{Applied}
-use Rattle.part_machine.specs.declared.applied.Applied.TheVariants as said
+use Rattle.part_rules.specs.declared.applied.Applied.{Applied}
+use Rattle.part_rules.specs.declared.applied.Applied.TheVariants as said
 use Rattle.chain_leader.specs.declared.body.ChainBody.{ChainBody}
 use Rattle.chain_leader.specs.declared.body.ChainBody.TheVariants as says
 use Rattle.chain_leader.specs.declared.letter.Letter.{Letter}

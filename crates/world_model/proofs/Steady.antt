@@ -6,8 +6,8 @@ use Rattle.graph_model.specs.declared.call_id.CallId.{CallId}
 use Rattle.part_keys.specs.declared.entry.PartEntry.{PartEntry}
 use Rattle.part_keys.specs.declared.entry.PartEntry.TheVariants as entry
 use Rattle.part_keys.specs.Routing.{is_payload}
-use Rattle.part_machine.specs.Part.{Part}
-use Rattle.part_machine.specs.Folded.{item_applied as item_folded}
+use Rattle.part_rules.specs.Part.{Part}
+use Rattle.part_rules.specs.Folded.{item_applied as item_folded}
 use Rattle.part_keys.specs.declared.vid_kind.VidKind.{VidKind}
 use Rattle.part_keys.specs.declared.proposal.Proposal.{Proposal}
 use Rattle.part_keys.specs.declared.proposal.Proposal.TheVariants.{Start, Members, Made, Blank}

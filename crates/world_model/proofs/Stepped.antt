@@ -18,7 +18,7 @@ use Rattle.chain_leader.specs.declared.letter.Letter.{Letter}
 use Rattle.chain_leader.specs.Leading.{Leading, idle}
 use Rattle.chain_world.specs.State.{Chains}
 use Rattle.chain_world.specs.World.{is_part}
-use Rattle.part_machine.specs.Folded.{folded}
+use Rattle.part_rules.specs.Folded.{folded}
 use Rattle.replica_core.specs.declared.packet.Place.{Place}
 use Rattle.replica_core.specs.declared.input.Input.{Input}
 use Rattle.replica_core.specs.declared.input.Tick.{Tick}

@@ -14,7 +14,7 @@ use Rattle.raft_group.specs.Group.{Group, with_step, decided_after, leaders_afte
 use Rattle.raft_group.specs.Facts.{GroupFacts, AgreesWith, LeadsBy, StandsAt}
 use Rattle.graph_model.specs.declared.call_id.CallId.{CallId}
 use Rattle.graph_model.specs.declared.query.Query.{Query}
-use Rattle.part_machine.specs.Folded.{folded}
+use Rattle.part_rules.specs.Folded.{folded}
 use Rattle.chain_leader.specs.declared.letter.Letter.{Letter}
 use Rattle.chain_leader.specs.Leading.{Leading, read}
 use Rattle.chain_world.specs.State.{Chains, decided_of, machine_behind as chain_machine_of}

@@ -12,14 +12,14 @@ use Rattle.part_keys.specs.declared.chain.Policy.TheVariants.{Forward}
 use Rattle.part_keys.specs.declared.entry.PartEntry.TheVariants as entry
 use Rattle.part_keys.specs.declared.proposal.Proposal.TheVariants.{Start, Members, Made}
 use Rattle.part_keys.specs.declared.vid_kind.VidKind.TheVariants.{Num}
-use Rattle.part_machine.specs.declared.applied.Applied.{Applied}
-use Rattle.part_machine.specs.declared.applied.Applied.TheVariants as told
-use Rattle.part_machine.specs.declared.kept.Outcome.TheVariants as kept
-use Rattle.part_machine.specs.Part.{Part, blank}
-use Rattle.part_machine.specs.Folded.{folded}
-use Rattle.part_machine.specs.Machine as machines
-use Rattle.part_machine.specs.Machine.{writes}
-use Rattle.part_machine.proofs.Computing.{computing}
+use Rattle.part_rules.specs.declared.applied.Applied.{Applied}
+use Rattle.part_rules.specs.declared.applied.Applied.TheVariants as told
+use Rattle.part_rules.specs.declared.kept.Outcome.TheVariants as kept
+use Rattle.part_rules.specs.Part.{Part, blank}
+use Rattle.part_rules.specs.Folded.{folded}
+use Rattle.part_rules.specs.Machine as machines
+use Rattle.part_rules.specs.Machine.{writes}
+use Rattle.part_rules.proofs.Computing.{computing}
 use Rattle.chain_leader.specs.declared.body.ChainBody.TheVariants as says
 use Rattle.chain_leader.specs.declared.letter.Letter.{Letter}
 use Rattle.chain_leader.specs.declared.letter.Letter.TheVariants.{Tell, Cross, Back, Again}

@@ -7,9 +7,9 @@ use Rattle.member_change.specs.declared.change.Change.TheVariants.{AddLearner, P
 use Rattle.graph_model.specs.declared.answer.Answer.TheVariants.{Fine}
 use Rattle.part_keys.specs.declared.entry.PartEntry.TheVariants as entry
 use Rattle.part_keys.specs.declared.proposal.Proposal.TheVariants.{Made}
-use Rattle.part_machine.specs.Machine as machines
-use Rattle.part_machine.specs.Part.{blank}
-use Rattle.part_machine.proofs.Computing.{computing}
+use Rattle.part_rules.specs.Machine as machines
+use Rattle.part_rules.specs.Part.{blank}
+use Rattle.part_rules.proofs.Computing.{computing}
 use Rattle.chain_leader.specs.declared.body.ChainBody.TheVariants as says
 use Rattle.chain_leader.specs.declared.letter.Letter.TheVariants.{Back, Again}
 use Rattle.chain_leader.specs.Leading.{on_item}

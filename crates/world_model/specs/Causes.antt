@@ -6,8 +6,8 @@ use Rattle.graph_model.specs.declared.call_id.CallId.{CallId}
 use Rattle.part_keys.specs.declared.entry.PartEntry.{PartEntry}
 use Rattle.part_keys.specs.declared.entry.PartEntry.TheVariants.{Double, Abort}
 use Rattle.part_keys.specs.declared.chain.Policy.TheVariants.{Cancel}
-use Rattle.part_machine.specs.declared.applied.Applied.{Applied}
-use Rattle.part_machine.specs.declared.applied.Applied.TheVariants as told
+use Rattle.part_rules.specs.declared.applied.Applied.{Applied}
+use Rattle.part_rules.specs.declared.applied.Applied.TheVariants as told
 use Rattle.chain_leader.specs.declared.body.ChainBody.TheVariants as says
 use Rattle.chain_leader.specs.Calls.{call_in}
 use Rattle.chain_world.specs.Answers.{WasAnswered, WasSeen}

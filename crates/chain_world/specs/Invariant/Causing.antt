@@ -5,8 +5,8 @@ use Rattle.graph_model.specs.declared.answer.Answer.TheVariants as said
 use Rattle.graph_model.specs.declared.call_id.CallId.{CallId}
 use Rattle.part_keys.specs.declared.proposal.Proposal.{Proposal}
 use Rattle.part_keys.specs.declared.entry.PartEntry.{PartEntry}
-use Rattle.part_machine.specs.declared.applied.Applied.{Applied}
-use Rattle.part_machine.specs.declared.applied.Applied.TheVariants.{Settled, Doubled, Closed, Aborted, Finished, Skipped, Conflict}
+use Rattle.part_rules.specs.declared.applied.Applied.{Applied}
+use Rattle.part_rules.specs.declared.applied.Applied.TheVariants.{Settled, Doubled, Closed, Aborted, Finished, Skipped, Conflict}
 use Rattle.chain_leader.specs.Calls.{call_in}
 use Rattle.chain_world.specs.Ledger.{Ledger}
 use Rattle.chain_world.specs.Answers.{WasAnswered, WasTold}

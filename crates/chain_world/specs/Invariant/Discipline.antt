@@ -14,7 +14,7 @@ use Rattle.part_keys.specs.declared.proposal.Proposal.TheVariants.{Made}
 use Rattle.part_keys.specs.declared.entry.PartEntry.{PartEntry}
 use Rattle.part_keys.specs.declared.entry.PartEntry.TheVariants.{Prime, Local, Double, Close, Abort, Remote, Fence, Vertex, Read}
 use Rattle.part_keys.specs.Routing.{routes_to}
-use Rattle.part_machine.specs.Part.{Part, guard_of}
+use Rattle.part_rules.specs.Part.{Part, guard_of}
 use Rattle.chain_leader.specs.Calls.{entry_of, part_of_op}
 use Rattle.chain_world.specs.Ledger.{Ledger, machine_of}
 pub use Rattle.chain_world.specs.Answers.{IsOneOf, IsInvoked, IsReplied, WasAnswered, WasTold, WasSeen}

@@ -7,7 +7,7 @@ use Rattle.part_keys.specs.declared.chain.PrimeRec.{PrimeRec}
 use Rattle.part_keys.specs.declared.proposal.Proposal.{Proposal}
 use Rattle.part_keys.specs.declared.proposal.Proposal.TheVariants.{Made}
 use Rattle.part_keys.specs.declared.entry.PartEntry.TheVariants.{Double}
-use Rattle.part_machine.specs.declared.applied.Applied.TheVariants as told
+use Rattle.part_rules.specs.declared.applied.Applied.TheVariants as told
 use Rattle.chain_leader.specs.Rules.{Table}
 use Rattle.part_keys.specs.declared.vid_kind.VidKind.{VidKind}
 use Rattle.chain_world.specs.declared.event.ChainEvent.{ChainEvent}

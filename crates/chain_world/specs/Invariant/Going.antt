@@ -3,7 +3,7 @@ use Rattle.std.specs.Prelude.{◌≡◌, ℕ, ◌≤◌, Some, true, is_some}
 use Rattle.graph_model.specs.declared.answer.Answer.{Answer}
 use Rattle.graph_model.specs.declared.call_id.CallId.{CallId}
 use Rattle.graph_model.specs.declared.op.Op.{Op}
-use Rattle.part_machine.specs.Part.{guard_of}
+use Rattle.part_rules.specs.Part.{guard_of}
 use Rattle.chain_world.specs.Places.{Among}
 use Rattle.chain_world.specs.Course.{Course, Courses, is_aborted}
 use Rattle.chain_world.specs.Invariant.Discipline.{IsInvoked, IsRightReply}

@@ -10,7 +10,7 @@ use Rattle.graph_model.specs.declared.graph_step.GStep.{GStep}
 use Rattle.graph_model.specs.declared.graph_step.GStep.TheVariants.{Invoke, Reply}
 use Rattle.part_keys.specs.declared.proposal.Proposal.{Proposal}
 use Rattle.part_keys.specs.Routing.{part_of_query}
-use Rattle.part_machine.specs.View.{view}
+use Rattle.part_rules.specs.View.{view}
 use Rattle.chain_world.specs.Outside.{IsGraphRun}
 use Rattle.chain_world.specs.Ledger.{Ledger, blank_ledger, machine_of, decides, invokes, replies}
 use Rattle.chain_world.specs.Course.{Courses, no_courses, recorded}

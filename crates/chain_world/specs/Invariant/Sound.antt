@@ -21,12 +21,12 @@ use Rattle.graph_model.specs.Run.{Run}
 use Rattle.part_keys.specs.declared.entry.PartEntry.{PartEntry}
 use Rattle.part_keys.specs.declared.entry.PartEntry.TheVariants.{Remote, Fence}
 use Rattle.part_keys.specs.Routing.{part_of}
-use Rattle.part_machine.specs.declared.applied.Applied.{Applied}
-use Rattle.part_machine.specs.declared.applied.Applied.TheVariants as answered
-use Rattle.part_machine.specs.declared.kept.Kept.{Kept}
-use Rattle.part_machine.specs.declared.kept.Outcome.{Outcome}
-use Rattle.part_machine.specs.declared.kept.Outcome.TheVariants as kept
-use Rattle.part_machine.specs.Part.{Part, number_of}
+use Rattle.part_rules.specs.declared.applied.Applied.{Applied}
+use Rattle.part_rules.specs.declared.applied.Applied.TheVariants as answered
+use Rattle.part_rules.specs.declared.kept.Kept.{Kept}
+use Rattle.part_rules.specs.declared.kept.Outcome.{Outcome}
+use Rattle.part_rules.specs.declared.kept.Outcome.TheVariants as kept
+use Rattle.part_rules.specs.Part.{Part, number_of}
 use Rattle.chain_leader.specs.Calls.{part_of_op, answer_of}
 use Rattle.chain_world.specs.Ledger.{Ledger, machine_of, caller_of, next_of}
 pub use Rattle.chain_world.specs.Edges.{row_at}

@@ -1,5 +1,5 @@
 use Rattle.std.proofs.Common.{refl}
-use Rattle.part_machine.proofs.Computing.{computing}
+use Rattle.part_rules.proofs.Computing.{computing}
 use Rattle.chain_leader.proofs.laws.worked_rules.Goals as goal
 
 pub returns : goal.returns

@@ -1,5 +1,0 @@
-use Rattle.part_machine.proofs.FoldsRise.{held_off}
-use Rattle.part_machine.proofs.fold_laws.lower_terms_are_stale.Goals as goal
-
-pub returns : goal.returns
-returns c = held_off

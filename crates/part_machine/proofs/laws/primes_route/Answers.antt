@@ -1,5 +1,0 @@
-use Rattle.part_machine.proofs.Routes as routes
-use Rattle.part_machine.proofs.laws.primes_route.Goals as goal
-
-pub returns : goal.returns
-returns c = routes.primes_route
