@@ -72,6 +72,6 @@ pub use name::Name;
 pub use op::Op;
 pub use query::Query;
 pub use tag_key::TagKey;
-pub use types::Types;
+pub use types::{MOST_TYPES, Types};
 pub use val::{Row, Val};
 pub use vid::Vid;

@@ -45,6 +45,19 @@ impl Op {
         }
     }
 
+    /// An equal op. Refused for want of memory alone.
+    pub fn copy(&self, alloc: Global) -> Result<Self, NoMemory>
+        ensures { IfOk result (λ op. op ≡ self.now) }
+    {
+        Ok(match self {
+            Op::PutEdges(rows, absent) => Op::PutEdges(rows.copy(alloc)?, *absent),
+            Op::DelEdges(edges) => Op::DelEdges(edges.copy(alloc)?),
+            Op::PutVertex(v, t, row, absent) => Op::PutVertex(*v, *t, row.copy(alloc)?, *absent),
+            Op::DelVertex(v) => Op::DelVertex(*v),
+            Op::Read(query) => Op::Read(query.copy(alloc)?),
+        })
+    }
+
     /// Whether it puts or removes edges.
     pub fn is_edge_op(&self) -> bool
         ensures { result ≡ is_edge_op self.now }

@@ -8,6 +8,9 @@ use lists::NoMemory;
 use std::alloc::Global;
 use std::marker::Model;
 
+/// The greatest number of types in a list.
+pub const MOST_TYPES: usize = 64;
+
 /// At most 64 edge types, positive and rising; contracts see the list of them.
 #[derive(Drop)]
 pub struct Types {
@@ -33,6 +36,15 @@ impl Types {
     {
         Ok(Types {
             types: Vec::from_slice(alloc, types)?,
+        })
+    }
+
+    /// An equal list. Refused for want of memory alone.
+    pub fn copy(&self, alloc: Global) -> Result<Self, NoMemory>
+        ensures { IfOk result (λ types. types ≡ self.now) }
+    {
+        Ok(Types {
+            types: Vec::from_slice(alloc, self.types.as_slice())?,
         })
     }
 
