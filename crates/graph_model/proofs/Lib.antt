@@ -14,6 +14,7 @@ pub mod Telling
 pub mod Calls
 pub mod Pends
 pub mod Pending
+pub mod Holders
 pub mod Halves
 pub mod Computing
 pub mod Places

@@ -8,6 +8,7 @@ pub mod Contents
 pub mod Views
 pub mod Ranges
 pub mod State
+pub mod Holders
 pub mod Lookups
 pub mod Steps
 pub mod After

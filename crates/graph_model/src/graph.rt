@@ -53,6 +53,8 @@ impl Graph {
     ghost use Rattle.graph_model.specs.declared.call.CallState.TheVariants.{Done};
     ghost use Rattle.graph_model.specs.State.{first_pending};
     ghost use Rattle.graph_model.specs.Steps.{moved};
+    ghost use Rattle.graph_model.specs.Edges.{edges_in};
+    ghost use Rattle.graph_model.specs.Holders.{AreFree};
 
     /// The empty graph.
     pub fn new(alloc: Global) -> Result<Graph, NoMemory>
@@ -135,8 +137,9 @@ impl Graph {
         Ok(())
     }
 
-    /// Begins a chain of the call on these edges.
+    /// Begins a chain of the call on these edges, none of which is in a chain.
     fn begin_chain(&mut self, id: CallId, list: Halves) -> Result<(), NoMemory>
+        requires { AreFree self.old.pend (edges_in list) }
         ensures ok { OnOk result (self.new ≡ noted self.old (chained self.old id list)) }
         ensures err { OnErr result (self.new ≡ self.old) }
     {
