@@ -53,7 +53,8 @@ fn removes_itself(me: u32, change: Change) -> bool
     }
 }
 
-fn is_member(config: &Config, peer: u32) -> bool
+/// Whether a peer is a voter or a learner.
+pub fn is_member(config: &Config, peer: u32) -> bool
     ensures { result ≡ rows.is_member peer config.now }
 {
     config.voters.contains(peer) || config.learners.contains(peer)

@@ -13,3 +13,4 @@ pub mod Confirming
 pub mod Numbers
 pub mod Copying
 pub mod Keeping
+pub mod Lawful

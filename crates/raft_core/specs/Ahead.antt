@@ -1,5 +1,6 @@
 -- A step that is made ahead: the code's parts of a state and of what a rule leaves.
 use Rattle.std.specs.Prelude.{ℕ, suc, ◌+◌, ◌<◌, ◌==◌, if◌then◌else◌, List, [], ◌∷◌, ◌++◌, length, take, Bool}
+use Rattle.std.specs.List.{AllByRecursion}
 use Rattle.raft_log.specs.declared.entry.Entry.{Entry}
 use Rattle.raft_log.specs.declared.role.Role.TheVariants.{Candidate}
 use Rattle.raft_log.specs.declared.message.RaftMsg.{RaftMsg}
@@ -82,6 +83,10 @@ IsMessage (Appended term ok index round) = Unit {0}
 IsMessage (Vote term last) = Unit {0}
 IsMessage (Voted term granted) = Unit {0}
 IsMessage (TimeoutNow term) = Unit {0}
+
+-- the same of each message that leaves
+abbrev pub AreMessages : Sends → Type 0
+AreMessages sends = AllByRecursion (λ (send : ℕ × RaftMsg). IsMessage send.1) sends
 
 abbrev pub IsInput : RaftInput → Type 0
 IsInput (Msg from message) = IsMessage message

@@ -1,6 +1,7 @@
 -- A peer as the code keeps it: what it is beside its log, its log, and how many entries that can take without memory.
-use Rattle.std.specs.Prelude.{◌≡◌, ◌≤◌, ℕ, List, length, take, true, Result, Ok, Err, None, Some}
+use Rattle.std.specs.Prelude.{◌≡◌, ◌≤◌, ℕ, List, [], length, take, true, false, Result, Ok, Err, None, Some}
 use Rattle.raft_log.specs.declared.entry.Entry.{Entry}
+use Rattle.raft_log.specs.declared.role.Role.TheVariants.{Follower}
 use Rattle.raft_log.specs.Log.{config_of, config_index}
 use Rattle.raft_core.specs.declared.effects.NotLeader.{NotLeader}
 use Rattle.raft_core.specs.declared.input.RaftInput.{RaftInput}
@@ -18,6 +19,11 @@ Peer = PeerState × (List Entry × ℕ)
 
 abbrev pub core_of : Peer → Core
 core_of peer = core_with peer.0 peer.1.0
+
+-- what a follower with commit 0 is, beside its log
+abbrev pub follower : ℕ → ℕ → ℕ → PeerState
+follower me term vote =
+    record { me = me; term = term; vote = vote; role = Follower; commit = 0; hint = 0; heard = false; votes = []; noop = 0; round = 0; rows = [] }
 
 -- the peer takes the input, the outcome is that of its step, and the log has room for the entries
 pub record IsMadeFor (peer : Peer) (input : RaftInput) (made : Outcome) : Type 0 where

@@ -36,7 +36,9 @@ pub use laws::{
     opened_again, rounds_rise, sends_its_log, speaks_in_its_term, stays_peer, worked_changes,
     worked_rounds, worked_steps,
 };
+pub use next_log::config_from;
 pub use peer::{RaftCore, RaftRoom};
 pub use progress::{Progress, Row};
 pub use state::{PeerState, Rows};
 pub use view::PeerView;
+pub use votes::leads;

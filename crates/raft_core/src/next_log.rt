@@ -45,8 +45,8 @@ fn config_behind(config: Config, item: &Item) -> Config
     }
 }
 
-// The last configuration, where entries come behind those that have one.
-fn config_from(mut config: Config, entries: &[Entry]) -> Config
+/// The last configuration, where entries come behind those that have one.
+pub fn config_from(mut config: Config, entries: &[Entry]) -> Config
     ensures { result ≡ config_from config entries.now }
 {
     for entry in entries {

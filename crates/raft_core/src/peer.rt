@@ -1,9 +1,13 @@
 //! One peer of a group.
 ghost use Rattle.std.specs.Prelude.{◌≡◌, ◌≤◌, ◌++◌, length, take, OnOk, OnErr, IfOk, IfErr, None, Some, if◌then◌else◌};
 ghost use Rattle.raft_log.specs.Config.{AreEntries};
-ghost use Rattle.raft_core.specs.Ahead.{core_with, IsInput};
+ghost use Rattle.raft_core.specs.Ahead.{core_with, IsInput, AreMessages};
 ghost use Rattle.raft_core.specs.Core.{opened, is_leading, is_ready};
+ghost use Rattle.raft_core.specs.Durable.{crashed};
+ghost use Rattle.raft_core.specs.Laws.{IsPeer};
 ghost use Rattle.raft_core.specs.Members as members;
+ghost use Rattle.raft_core.specs.Peer as peers;
+ghost use Rattle.raft_core.specs.Rounds.{confirmed_of};
 ghost use Rattle.raft_core.specs.Step as rules;
 
 use crate::effects::{NotLeader, RaftEffects};
@@ -11,6 +15,7 @@ use crate::giving;
 use crate::input::RaftInput;
 use crate::leader::matched_in;
 use crate::made::Outcome;
+use crate::next_log::NextLog;
 use crate::outcome::outcome_of;
 use crate::state::PeerState;
 use crate::view::PeerView;
@@ -57,12 +62,33 @@ fn rewrite(log: &mut RaftLog, keep: u64, entries: Vec<Entry>)
     requires within { keep ≤ length log.old.0 }
     requires room { length entries.items ≤ log.old.1 }
     requires items { AreEntries entries.items }
-    ensures { log.new.0 ≡ take keep log.old.0 ++ entries.items }
+    ensures log { log.new.0 ≡ take keep log.old.0 ++ entries.items }
+    ensures items { AreEntries log.new.0 }
 {
     if keep < log.len() {
         log.cut_from(keep + 1);
     }
     log.extend(entries);
+    let _behind = log.entries();
+}
+
+// What a follower with commit 0 is, beside its log.
+fn follower(alloc: Global, me: u32, term: u64, vote: u32) -> PeerState
+    ensures { result ≡ peers.follower me term vote }
+{
+    PeerState {
+        me,
+        term,
+        vote,
+        role: Role::Follower,
+        commit: 0,
+        hint: 0,
+        heard: false,
+        votes: Listed::new(alloc),
+        noop: 0,
+        round: 0,
+        rows: Listed::new(alloc),
+    }
 }
 
 impl RaftCore {
@@ -73,27 +99,31 @@ impl RaftCore {
     pub fn open(alloc: Global, me: u32, term: u64, vote: u32, log: RaftLog) -> RaftCore
         ensures { core_of result ≡ opened me term vote log.0 }
     {
-        let state = PeerState {
-            me,
-            term,
-            vote,
-            role: Role::Follower,
-            commit: 0,
-            hint: 0,
-            heard: false,
-            votes: Listed::new(alloc),
-            noop: 0,
-            round: 0,
-            rows: Listed::new(alloc),
-        };
+        let state = follower(alloc, me, term, vote);
         RaftCore { state, log }
     }
 
-    /// The log.
+    /// What a crash leaves: a follower with commit 0, of the same term, vote and log.
+    pub fn crash(&mut self, alloc: Global)
+        ensures { core_of self.new ≡ crashed (core_of self.old) }
+    {
+        self.state = follower(alloc, self.state.me, self.state.term, self.state.vote);
+    }
+
+    /// The log. What holds of each peer holds of this one.
     pub fn log(&self) -> &RaftLog
-        ensures { result.now.0 ≡ (core_of self.now).log }
+        ensures log { result.now.0 ≡ (core_of self.now).log }
+        ensures peer { IsPeer (core_of self.now) }
     {
         &self.log
+    }
+
+    /// The greatest round of this leader that a majority of its voters has confirmed, 0 at another role.
+    pub fn confirmed(&self) -> u64
+        ensures { result ≡ confirmed_of (core_of self.now) }
+    {
+        let log = NextLog::new(&self.log, self.log.len(), &[]);
+        giving::confirmed_of(&self.state, &log)
     }
 
     /// The match index of a member at the leader, else 0.
@@ -150,6 +180,7 @@ impl RaftCore {
         requires { IsRoomFor self.old input room }
         ensures stepped { IfOk result (λ effects. stepped_by (core_of self.new) effects ≡ rules.stepped (core_of self.old) input) }
         ensures takes { OnOk result (rules.refusal (core_of self.old) input ≡ None) }
+        ensures messages { IfOk result (λ effects. AreMessages effects.sends) }
         ensures refused { IfErr result (λ refused. rules.refusal (core_of self.old) input ≡ Some refused) }
         ensures unchanged { OnErr result (self.new ≡ self.old) }
     {
@@ -162,7 +193,8 @@ impl RaftCore {
     // The peer becomes what stands behind its step.
     fn go_on(&mut self, made: Outcome, _input: &RaftInput) -> RaftEffects
         requires { IsMadeFor self.old _input.now made }
-        ensures { stepped_by (core_of self.new) result ≡ rules.stepped (core_of self.old) _input.now }
+        ensures stepped { stepped_by (core_of self.new) result ≡ rules.stepped (core_of self.old) _input.now }
+        ensures messages { AreMessages result.sends }
     {
         rewrite(&mut self.log, made.keep, made.entries);
         self.state = made.state;

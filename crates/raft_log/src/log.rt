@@ -165,6 +165,14 @@ impl RaftLog {
         self.entries.len() as u64
     }
 
+    /// The entries, in order.
+    pub fn entries(&self) -> &[Entry]
+        ensures entries { result.now ≡ self.now.0 }
+        ensures items { AreEntries self.now.0 }
+    {
+        self.entries.as_slice()
+    }
+
     /// The entry at an index, none before the first and behind the last.
     pub fn entry(&self, index: u64) -> Option<&Entry>
         ensures { option_copied result ≡ entry_at self.now.0 index }
