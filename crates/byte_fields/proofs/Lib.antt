@@ -7,3 +7,4 @@ pub mod Filling
 pub mod Formats
 pub mod Answered
 pub mod Orders
+pub mod Deciding

@@ -176,7 +176,19 @@ impl Disk for MemDisk {
 
     ghost only_now = { λ m c left. only_left m.first (steps_of m) c left };
 
-    fn reserve(&mut self, _alloc: Global, calls: usize, bytes: usize) -> Result<(), NoMemory> {
+    fn reserve(&mut self, _alloc: Global, calls: usize, bytes: usize) -> Result<(), NoMemory>
+        ensures ok { OnOk result ((calls ≤ calls_room self.new) × (bytes ≤ bytes_room self.new)) }
+        ensures room { (calls_room self.old ≤ calls_room self.new) × (bytes_room self.old ≤ bytes_room self.new) }
+        ensures reads { reads_of self.new ≡ reads_of self.old }
+        ensures images { SameImages (LeftOf self.old) (LeftOf self.new) }
+        ensures time { Elapses (clock_of self.old) (clock_of self.new) (SinceOf self.old) (SinceOf self.new) (LeftOf self.new) }
+        ensures faults { faults_of self.new ≡ faults_of self.old }
+
+        // Beside what each disk promises.
+        ensures noted { steps_of self.new ≡ steps_of self.old }
+        ensures first { first_of self.new ≡ first_of self.old }
+        ensures plan { plan_of self.new ≡ plan_of self.old }
+    {
         let Some(most) = self.bytes.len().checked_add(bytes) else {
             return Err(NoMemory);
         };

@@ -1,5 +1,6 @@
 -- What has a spelling: `HasSpelling` says what the types of the numbers don't say already, which is all that whoever
--- writes has to know; `Fits` says the ranges of the numbers too.
+-- writes has to know; `Fits` says the ranges of the numbers too, and that lengths fit their 4 bytes: what is longer is
+-- refused as for want of memory where it is to be written.
 use Rattle.std.specs.Prelude.{◌≡◌, FitsSigned, ℕ, ℤ, pos, ◌<ℤ◌, ◌<◌, ◌≤◌, ◌^◌, Bool, true, false, List, length, Option, None, Some}
 use Rattle.std.specs.Int.{w32, w64}
 use Rattle.std.specs.List.{AllByRecursion}
@@ -34,12 +35,12 @@ HasSpellingVid Bare (Name n) = ⊥
 HasSpellingVid Tagged (Num n) = Unit {0}
 HasSpellingVid Tagged (Name n) = IsName n
 
--- a value: a text is UTF-8, and not too long
+-- a value: a text is UTF-8
 abbrev pub HasSpellingVal : Val → Type 0
 HasSpellingVal Null = Unit {0}
 HasSpellingVal (Int z) = Unit {0}
 HasSpellingVal (Flag b) = Unit {0}
-HasSpellingVal (Words t) = (length t < 2 ^ 32) × IsUtf8 t
+HasSpellingVal (Words t) = IsUtf8 t
 
 -- a row: not too long
 abbrev pub HasSpellingRow : List Val → Type 0
@@ -93,7 +94,7 @@ HasSpellingFound form f = HasSpellingFoundBy form f.edge f.inward × HasSpelling
 
 -- the rows of an answer
 abbrev pub HasSpellingView : IdForm → List Found → Type 0
-HasSpellingView form list = (length list < 2 ^ 32) × AllByRecursion (HasSpellingFound form) list
+HasSpellingView form list = AllByRecursion (HasSpellingFound form) list
 
 -- ---- the same, with the ranges of the numbers
 

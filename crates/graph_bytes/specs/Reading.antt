@@ -8,6 +8,7 @@ use Rattle.byte_fields.specs.declared.misfit.Misfit.{Misfit}
 use Rattle.byte_fields.specs.Reading.{◌>>=◌, misfit, byte_at, number_at, signed_at, flag_at, run_at, id_at, many_at, both_at, made_at, such_at, count_at, counted_at, each_at}
 use Rattle.maps.specs.Keys.{has_key}
 use Rattle.graph_model.specs.Names.{name_of}
+use Rattle.graph_bytes.specs.Kinds.{number_id, text_id, null_value, int_value, flag_value, words_value, absent_half, here_half, tag_query, edge_query, out_query, in_query, both_query, tag_found, edge_found}
 use Rattle.graph_bytes.specs.declared.id_form.IdForm.{IdForm}
 use Rattle.graph_bytes.specs.declared.id_form.IdForm.TheVariants.{Bare, Tagged}
 use Rattle.graph_model.specs.Keys.{edge_cmp}
@@ -40,8 +41,8 @@ name_at bytes = made_at name_of short_text_at bytes
 -- an id's kind, and the id
 unfoldable pub tagged_at : List ℕ → Result (Vid × List ℕ) Misfit
 tagged_at bytes = byte_at bytes >>= λ kind.
-    if kind.0 == 0 then made_at (λ n. Num n) (signed_at w64) kind.1
-    else if kind.0 == 1 then made_at (λ n. Name n) name_at kind.1
+    if kind.0 == number_id then made_at (λ n. Num n) (signed_at w64) kind.1
+    else if kind.0 == text_id then made_at (λ n. Name n) name_at kind.1
     else Err (misfit bytes)
 
 -- an id
@@ -56,10 +57,10 @@ text_at bytes = counted_at (number_at 4) utf8_at bytes
 -- a value's kind, and what it holds
 unfoldable pub value_at : List ℕ → Result (Val × List ℕ) Misfit
 value_at bytes = byte_at bytes >>= λ kind.
-    if kind.0 == 0 then Ok (Null, kind.1)
-    else if kind.0 == 1 then made_at (λ z. Int z) (signed_at w64) kind.1
-    else if kind.0 == 2 then made_at (λ b. Flag b) flag_at kind.1
-    else if kind.0 == 3 then made_at (λ t. Words t) text_at kind.1
+    if kind.0 == null_value then Ok (Null, kind.1)
+    else if kind.0 == int_value then made_at (λ z. Int z) (signed_at w64) kind.1
+    else if kind.0 == flag_value then made_at (λ b. Flag b) flag_at kind.1
+    else if kind.0 == words_value then made_at (λ t. Words t) text_at kind.1
     else Err (misfit bytes)
 
 -- values behind their count
@@ -69,8 +70,8 @@ row_at bytes = counted_at (number_at 2) (many_at value_at) bytes
 -- absent, or here with a row
 unfoldable pub half_at : List ℕ → Result (Half × List ℕ) Misfit
 half_at bytes = byte_at bytes >>= λ kind.
-    if kind.0 == 0 then Ok (Absent, kind.1)
-    else if kind.0 == 1 then made_at (λ vals. Here vals) row_at kind.1
+    if kind.0 == absent_half then Ok (Absent, kind.1)
+    else if kind.0 == here_half then made_at (λ vals. Here vals) row_at kind.1
     else Err (misfit bytes)
 
 -- an edge type above `low`
@@ -144,11 +145,11 @@ tag_at form bytes = both_at (vid_at form) (number_at 4) bytes
 -- a query's kind, and what it asks for
 unfoldable pub query_at : IdForm → List ℕ → Result (Query × List ℕ) Misfit
 query_at form bytes = byte_at bytes >>= λ kind.
-    if kind.0 == 1 then made_at (λ x. asked.Tag x.0 x.1) (tag_at form) kind.1
-    else if kind.0 == 2 then made_at (λ e. asked.Edge e) (edge_at form) kind.1
-    else if kind.0 == 3 then made_at (λ x. asked.Out x.0 x.1) (around_at form) kind.1
-    else if kind.0 == 4 then made_at (λ x. asked.In x.0 x.1) (around_at form) kind.1
-    else if kind.0 == 5 then made_at (λ x. asked.Both x.0 x.1) (around_at form) kind.1
+    if kind.0 == tag_query then made_at (λ x. asked.Tag x.0 x.1) (tag_at form) kind.1
+    else if kind.0 == edge_query then made_at (λ e. asked.Edge e) (edge_at form) kind.1
+    else if kind.0 == out_query then made_at (λ x. asked.Out x.0 x.1) (around_at form) kind.1
+    else if kind.0 == in_query then made_at (λ x. asked.In x.0 x.1) (around_at form) kind.1
+    else if kind.0 == both_query then made_at (λ x. asked.Both x.0 x.1) (around_at form) kind.1
     else Err (misfit bytes)
 
 -- the row of a tag
@@ -162,8 +163,8 @@ of_edge x = record { edge = Some x.0.1; inward = x.0.0; row = x.1 }
 -- a row of an answer: its kind, and what is found
 unfoldable pub found_at : IdForm → List ℕ → Result (Found × List ℕ) Misfit
 found_at form bytes = byte_at bytes >>= λ kind.
-    if kind.0 == 0 then made_at of_tag row_at kind.1
-    else if kind.0 == 1 then made_at of_edge (both_at (both_at flag_at (edge_at form)) row_at) kind.1
+    if kind.0 == tag_found then made_at of_tag row_at kind.1
+    else if kind.0 == edge_found then made_at of_edge (both_at (both_at flag_at (edge_at form)) row_at) kind.1
     else Err (misfit bytes)
 
 -- the rows of an answer behind their count

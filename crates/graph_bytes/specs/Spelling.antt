@@ -4,6 +4,7 @@ use Rattle.std.specs.List.{flat_map}
 use Rattle.std.specs.Int.{w32, w64}
 use Rattle.byte_fields.specs.Fields.{number, signed, flag}
 use Rattle.graph_model.specs.Names.{text_of}
+use Rattle.graph_bytes.specs.Kinds.{number_id, text_id, null_value, int_value, flag_value, words_value, absent_half, here_half, tag_query, edge_query, out_query, in_query, both_query, tag_found, edge_found}
 use Rattle.graph_bytes.specs.declared.id_form.IdForm.{IdForm}
 use Rattle.graph_bytes.specs.declared.id_form.IdForm.TheVariants.{Bare, Tagged}
 use Rattle.graph_model.specs.declared.call_id.CallId.{CallId}
@@ -27,8 +28,8 @@ name n = n.len ∷ text_of n
 abbrev pub vid : IdForm → Vid → List ℕ
 vid Bare (Num n) = signed w64 n
 vid Bare (Name n) = []
-vid Tagged (Num n) = 0 ∷ signed w64 n
-vid Tagged (Name n) = 1 ∷ name n
+vid Tagged (Num n) = number_id ∷ signed w64 n
+vid Tagged (Name n) = text_id ∷ name n
 
 -- a text behind its length
 abbrev pub text : List ℕ → List ℕ
@@ -36,10 +37,10 @@ text bytes = number 4 (length bytes) ++ bytes
 
 -- the kind of a value, and what it holds
 abbrev pub value : Val → List ℕ
-value Null = 0 ∷ []
-value (Int z) = 1 ∷ signed w64 z
-value (Flag b) = 2 ∷ flag b
-value (Words t) = 3 ∷ text t
+value Null = null_value ∷ []
+value (Int z) = int_value ∷ signed w64 z
+value (Flag b) = flag_value ∷ flag b
+value (Words t) = words_value ∷ text t
 
 -- the values behind their count
 abbrev pub row : List Val → List ℕ
@@ -47,8 +48,8 @@ row vals = number 2 (length vals) ++ flat_map value vals
 
 -- absent, or here with a row
 abbrev pub half : Half → List ℕ
-half Absent = 0 ∷ []
-half (Here vals) = 1 ∷ row vals
+half Absent = absent_half ∷ []
+half (Here vals) = here_half ∷ row vals
 
 -- source, type, rank, destination
 abbrev pub edge : IdForm → EdgeId → List ℕ
@@ -84,16 +85,16 @@ tag_of form v tag = vid form v ++ number 4 tag
 
 -- the kind of a query, and what it asks for
 abbrev pub query : IdForm → Query → List ℕ
-query form (asked.Tag v tag) = 1 ∷ tag_of form v tag
-query form (asked.Edge e) = 2 ∷ edge form e
-query form (asked.Out v list) = 3 ∷ around form v list
-query form (asked.In v list) = 4 ∷ around form v list
-query form (asked.Both v list) = 5 ∷ around form v list
+query form (asked.Tag v tag) = tag_query ∷ tag_of form v tag
+query form (asked.Edge e) = edge_query ∷ edge form e
+query form (asked.Out v list) = out_query ∷ around form v list
+query form (asked.In v list) = in_query ∷ around form v list
+query form (asked.Both v list) = both_query ∷ around form v list
 
 -- the row of a tag, or of an edge: whether it was found by its in-half, the edge, the row
 abbrev pub found_by : IdForm → Option EdgeId → Bool → List Val → List ℕ
-found_by form None inward vals = 0 ∷ row vals
-found_by form (Some e) inward vals = 1 ∷ (flag inward ++ edge form e ++ row vals)
+found_by form None inward vals = tag_found ∷ row vals
+found_by form (Some e) inward vals = edge_found ∷ (flag inward ++ edge form e ++ row vals)
 
 -- a row of an answer
 abbrev pub found : IdForm → Found → List ℕ

@@ -8,6 +8,7 @@ ghost use Rattle.graph_bytes.specs.Reading.{found_at, view_at};
 
 use crate::edges::{put_edge, read_edge};
 use crate::id_form::IdForm;
+use crate::kinds::{EDGE_FOUND, TAG_FOUND};
 use crate::values::{put_row, read_row};
 use byte_fields::{Misfit, ReadRefused, Writer, read_flag, read_u32};
 use graph_model::{Found, View};
@@ -20,7 +21,7 @@ pub fn read_found(alloc: Global, bytes: &[u8], form: IdForm) -> Result<(Found, &
     ensures { Gives (λ x. (x.0, x.1.now)) result (found_at form bytes.now) }
 {
     match bytes {
-        [0, rest @ ..] => {
+        [TAG_FOUND, rest @ ..] => {
             let (row, rest) = read_row(alloc, rest)?;
             let found = Found {
                 edge: None,
@@ -29,7 +30,7 @@ pub fn read_found(alloc: Global, bytes: &[u8], form: IdForm) -> Result<(Found, &
             };
             Ok((found, rest))
         }
-        [1, rest @ ..] => {
+        [EDGE_FOUND, rest @ ..] => {
             let (inward, rest) = read_flag(rest)?;
             let (edge, rest) = match read_edge(rest, form) {
                 Ok(found) => found,
@@ -86,11 +87,11 @@ pub fn put_found(out: &mut Writer, of: &Found, form: IdForm) -> Result<(), NoMem
 {
     match &of.edge {
         None => {
-            out.put_byte(0)?;
+            out.put_byte(TAG_FOUND)?;
             put_row(out, &of.row)
         }
         Some(edge) => {
-            out.put_byte(1)?;
+            out.put_byte(EDGE_FOUND)?;
             out.put_flag(of.inward)?;
             put_edge(out, edge, form)?;
             put_row(out, &of.row)
@@ -109,13 +110,16 @@ fn put_each(out: &mut Writer, list: &[Found], form: IdForm) -> Result<(), NoMemo
     Ok(())
 }
 
-/// Puts the rows of an answer behind their count. After a refusal, which comes for want of memory alone, some of its
-/// fields may stand.
+/// Puts the rows of an answer behind their count. After a refusal, which comes for want of memory and for 2^32 rows or
+/// more, some of its fields may stand.
 pub fn put_view(out: &mut Writer, list: &View, form: IdForm) -> Result<(), NoMemory>
     requires { HasSpellingView form list.now }
     ensures ok { OnOk result (out.new ≡ out.old ++ view form list.now) }
     ensures fits { OnOk result (FitsView form list.now) }
 {
+    if list.len() > u32::MAX as usize {
+        return Err(NoMemory);
+    }
     out.put_u32(list.len() as u32)?;
     put_each(out, list.as_slice(), form)
 }

@@ -7,6 +7,7 @@ ghost use Rattle.graph_bytes.specs.Fits.{HasSpellingVid, FitsVid};
 ghost use Rattle.graph_bytes.specs.Reading.{utf8_at, short_text_at, name_at, tagged_at, vid_at};
 
 use crate::id_form::IdForm;
+use crate::kinds::{NUMBER_ID, TEXT_ID};
 use byte_fields::{Misfit, Writer, read_count, read_i64, read_run};
 use graph_model::{Name, Vid};
 use lists::NoMemory;
@@ -48,11 +49,11 @@ fn read_tagged(bytes: &[u8]) -> Result<(Vid, &[u8]), Misfit>
     ensures { Reads (λ x. (x.0, x.1.now)) result (tagged_at bytes.now) }
 {
     match bytes {
-        [0, rest @ ..] => {
+        [NUMBER_ID, rest @ ..] => {
             let (number, rest) = read_i64(rest)?;
             Ok((Vid::Num(number), rest))
         }
-        [1, rest @ ..] => {
+        [TEXT_ID, rest @ ..] => {
             match read_name(rest) {
                 Ok((name, rest)) => Ok((Vid::Name(name), rest)),
                 Err(misfit) => Err(misfit),
@@ -97,11 +98,11 @@ pub fn put_vid(out: &mut Writer, v: &Vid, form: IdForm) -> Result<(), NoMemory>
         },
         IdForm::Tagged => match v {
             Vid::Num(number) => {
-                out.put_byte(0)?;
+                out.put_byte(NUMBER_ID)?;
                 out.put_i64(*number)
             }
             Vid::Name(n) => {
-                out.put_byte(1)?;
+                out.put_byte(TEXT_ID)?;
                 put_name(out, n)
             }
         },

@@ -12,6 +12,7 @@ ghost use Rattle.graph_bytes.specs.Reading.{rising_types_at, types_at, around_at
 use crate::edges::{put_edge, read_edge, read_type};
 use crate::id_form::IdForm;
 use crate::ids::{put_vid, read_vid};
+use crate::kinds::{BOTH_QUERY, EDGE_QUERY, IN_QUERY, OUT_QUERY, TAG_QUERY};
 use byte_fields::{Misfit, ReadRefused, Writer, read_count, read_u32};
 use graph_model::{Query, Types, Vid};
 use lists::NoMemory;
@@ -78,35 +79,35 @@ pub fn read_query(alloc: Global, bytes: &[u8], form: IdForm) -> Result<(Query, &
     ensures { Gives (λ x. (x.0, x.1.now)) result (query_at form bytes.now) }
 {
     match bytes {
-        [1, rest @ ..] => {
+        [TAG_QUERY, rest @ ..] => {
             let ((v, tag), rest) = match read_tag(rest, form) {
                 Ok(found) => found,
                 Err(misfit) => return Err(ReadRefused::Misfit(misfit)),
             };
             Ok((Query::Tag(v, tag), rest))
         }
-        [2, rest @ ..] => {
+        [EDGE_QUERY, rest @ ..] => {
             let (edge, rest) = match read_edge(rest, form) {
                 Ok(found) => found,
                 Err(misfit) => return Err(ReadRefused::Misfit(misfit)),
             };
             Ok((Query::Edge(edge), rest))
         }
-        [3, rest @ ..] => {
+        [OUT_QUERY, rest @ ..] => {
             let ((v, types), rest) = match read_around(alloc, rest, form) {
                 Ok(found) => found,
                 Err(refused) => return Err(refused),
             };
             Ok((Query::Out(v, types), rest))
         }
-        [4, rest @ ..] => {
+        [IN_QUERY, rest @ ..] => {
             let ((v, types), rest) = match read_around(alloc, rest, form) {
                 Ok(found) => found,
                 Err(refused) => return Err(refused),
             };
             Ok((Query::In(v, types), rest))
         }
-        [5, rest @ ..] => {
+        [BOTH_QUERY, rest @ ..] => {
             let ((v, types), rest) = match read_around(alloc, rest, form) {
                 Ok(found) => found,
                 Err(refused) => return Err(refused),
@@ -146,24 +147,24 @@ pub fn put_query(out: &mut Writer, asked: &Query, form: IdForm) -> Result<(), No
 {
     match asked {
         Query::Tag(v, tag) => {
-            out.put_byte(1)?;
+            out.put_byte(TAG_QUERY)?;
             put_vid(out, v, form)?;
             out.put_u32(*tag)
         }
         Query::Edge(edge) => {
-            out.put_byte(2)?;
+            out.put_byte(EDGE_QUERY)?;
             put_edge(out, edge, form)
         }
         Query::Out(v, types) => {
-            out.put_byte(3)?;
+            out.put_byte(OUT_QUERY)?;
             put_around(out, v, types, form)
         }
         Query::In(v, types) => {
-            out.put_byte(4)?;
+            out.put_byte(IN_QUERY)?;
             put_around(out, v, types, form)
         }
         Query::Both(v, types) => {
-            out.put_byte(5)?;
+            out.put_byte(BOTH_QUERY)?;
             put_around(out, v, types, form)
         }
     }

@@ -3,3 +3,4 @@ pub mod Fillings
 pub mod FlippedOrders
 pub mod KeyFormats
 pub mod KeyOrders
+pub mod Deciding

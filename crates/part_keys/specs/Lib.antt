@@ -2,6 +2,7 @@ pub mod Kinds
 pub mod Routing
 pub mod Worked
 pub mod Spelled
+pub mod EntryKinds
 pub mod Spelling
 pub mod Fits
 pub mod Reading

@@ -13,7 +13,7 @@ use Rattle.part_keys.specs.declared.key.Key.{Key}
 use Rattle.part_keys.specs.declared.key.Key.TheVariants.{Tag, OutEdge, InEdge, Prime, DoublePrime, Guard, Client}
 use Rattle.part_keys.specs.declared.vid_kind.VidKind.{VidKind}
 use Rattle.part_keys.specs.declared.vid_kind.VidKind.TheVariants as kinds
-use Rattle.part_keys.specs.Keys.{flip, turned}
+use Rattle.part_keys.specs.Keys.{flip, turned, tag_kind, edge_kind, prime_kind, double_kind, guard_kind, client_kind}
 
 -- a high byte that is 0, and a number from 1 to 64
 abbrev pub is_part : (ℕ × ℕ) → Bool
@@ -67,10 +67,10 @@ positive_at kind bytes = such_at (λ f. int_lt (pos 0) f.1.etype) (form_at kind)
 -- a key's kind, and what is behind it
 unfoldable pub key_at : VidKind → List ℕ → Result (Key × List ℕ) Misfit
 key_at kind bytes = byte_at bytes >>= λ first.
-    if first.0 == 1 then made_at (λ x. Tag x.0.0 x.0.1 x.1) (both_at (both_at part_at (vertex_at kind)) (number_at 4)) first.1
-    else if first.0 == 2 then made_at seen_key (such_at is_either (form_at kind)) first.1
-    else if first.0 == 3 then made_at (λ f. Prime f.0 f.1) (positive_at kind) first.1
-    else if first.0 == 4 then made_at (λ f. DoublePrime f.0 f.1) (positive_at kind) first.1
-    else if first.0 == 5 then made_at (λ x. Guard x.0 x.1) (both_at part_at part_at) first.1
-    else if first.0 == 6 then made_at (λ x. Client x.0 x.1) (both_at part_at (id_at 64 0)) first.1
+    if first.0 == tag_kind then made_at (λ x. Tag x.0.0 x.0.1 x.1) (both_at (both_at part_at (vertex_at kind)) (number_at 4)) first.1
+    else if first.0 == edge_kind then made_at seen_key (such_at is_either (form_at kind)) first.1
+    else if first.0 == prime_kind then made_at (λ f. Prime f.0 f.1) (positive_at kind) first.1
+    else if first.0 == double_kind then made_at (λ f. DoublePrime f.0 f.1) (positive_at kind) first.1
+    else if first.0 == guard_kind then made_at (λ x. Guard x.0 x.1) (both_at part_at part_at) first.1
+    else if first.0 == client_kind then made_at (λ x. Client x.0 x.1) (both_at part_at (id_at 64 0)) first.1
     else Err (misfit bytes)

@@ -1,14 +1,19 @@
 //! Writing and reading entries.
 ghost use Rattle.std.specs.Prelude.{◌≡◌, ◌++◌, List, ℕ, length, IfOk, OnOk};
 ghost use Rattle.byte_fields.specs.Reading.{Reads, Gives, whole, ReadsAll, Answers};
+ghost use Rattle.byte_fields.specs.Versions.{IsVersion};
 ghost use Rattle.graph_bytes.specs.declared.id_form.IdForm.{IdForm};
 ghost use Rattle.graph_bytes.specs.Fits.{IsSmall};
 ghost use Rattle.part_keys.specs.declared.entry.PartEntry.{PartEntry};
 ghost use Rattle.part_keys.specs.Spelling.{form_of, sent, change, entry};
-ghost use Rattle.part_keys.specs.Fits.{IsVersion, HasSpelling, HasSpellingChange, FitsSent, FitsChange, Fits};
+ghost use Rattle.part_keys.specs.Fits.{HasSpelling, HasSpellingChange, FitsSent, FitsChange, Fits};
 ghost use Rattle.part_keys.specs.Reading.{sent_at, change_at, entry_at, place};
 
 use crate::entry::PartEntry;
+use crate::entry_kinds::{
+    ABORT_ENTRY, CLOSE_ENTRY, DELETE_CHANGE, DOUBLE_ENTRY, FENCE_ENTRY, LOCAL_ENTRY, PRIME_ENTRY,
+    PUT_CHANGE, READ_ENTRY, REMOTE_ENTRY, VERTEX_ENTRY,
+};
 use crate::refused::EntryRefused;
 use byte_fields::{Misfit, ReadRefused, Writer, read_flag, read_id, read_u64};
 use graph_bytes::{
@@ -46,7 +51,7 @@ fn read_change(alloc: Global, bytes: &[u8], form: IdForm) -> Result<(Op, &[u8]),
     ensures { Gives (λ x. (x.0, x.1.now)) result (change_at form bytes.now) }
 {
     match bytes {
-        [1, rest @ ..] => {
+        [PUT_CHANGE, rest @ ..] => {
             let ((v, tag), rest) = match read_tag(rest, form) {
                 Ok(found) => found,
                 Err(misfit) => return Err(ReadRefused::Misfit(misfit)),
@@ -55,7 +60,7 @@ fn read_change(alloc: Global, bytes: &[u8], form: IdForm) -> Result<(Op, &[u8]),
             let (vals, rest) = read_row(alloc, rest)?;
             Ok((Op::PutVertex(v, tag, vals, absent), rest))
         }
-        [2, rest @ ..] => {
+        [DELETE_CHANGE, rest @ ..] => {
             let (v, rest) = match read_vid(rest, form) {
                 Ok(found) => found,
                 Err(misfit) => return Err(ReadRefused::Misfit(misfit)),
@@ -76,39 +81,39 @@ pub fn read_entry_front(
     ensures { Gives (λ x. (x.0, x.1.now)) result (entry_at form bytes.now) }
 {
     match bytes {
-        [1, rest @ ..] => {
+        [PRIME_ENTRY, rest @ ..] => {
             let (id, rest) = read_call(rest)?;
             let (absent, rest) = read_flag(rest)?;
             let (list, rest) = read_halves(alloc, rest, form)?;
             Ok((PartEntry::Prime(id, list, absent), rest))
         }
-        [2, rest @ ..] => {
+        [LOCAL_ENTRY, rest @ ..] => {
             let (v, rest) = read_u64(rest)?;
             Ok((PartEntry::Local(v), rest))
         }
-        [3, rest @ ..] => {
+        [DOUBLE_ENTRY, rest @ ..] => {
             let (v, rest) = read_u64(rest)?;
             Ok((PartEntry::Double(v), rest))
         }
-        [4, rest @ ..] => {
+        [CLOSE_ENTRY, rest @ ..] => {
             let (v, rest) = read_u64(rest)?;
             Ok((PartEntry::Close(v), rest))
         }
-        [5, rest @ ..] => {
+        [ABORT_ENTRY, rest @ ..] => {
             let (v, rest) = read_u64(rest)?;
             Ok((PartEntry::Abort(v), rest))
         }
-        [6, rest @ ..] => {
+        [REMOTE_ENTRY, rest @ ..] => {
             let (((source, term), v), rest) = read_sent(rest)?;
             let (list, rest) = read_halves(alloc, rest, form)?;
             Ok((PartEntry::Remote(source, term, v, list), rest))
         }
-        [7, rest @ ..] => {
+        [FENCE_ENTRY, rest @ ..] => {
             let (((source, term), v), rest) = read_sent(rest)?;
             let (list, rest) = read_edges(alloc, rest, form)?;
             Ok((PartEntry::Fence(source, term, v, list), rest))
         }
-        [8, rest @ ..] => {
+        [VERTEX_ENTRY, rest @ ..] => {
             let (id, rest) = read_call(rest)?;
             let (made, rest) = match read_change(alloc, rest, form) {
                 Ok(found) => found,
@@ -116,7 +121,7 @@ pub fn read_entry_front(
             };
             Ok((PartEntry::Vertex(id, made), rest))
         }
-        [9, rest @ ..] => {
+        [READ_ENTRY, rest @ ..] => {
             let (id, rest) = read_call(rest)?;
             let (query, rest) = match read_query(alloc, rest, form) {
                 Ok(found) => found,
@@ -186,14 +191,14 @@ fn put_change(out: &mut Writer, made: &Op, form: IdForm) -> Result<(), NoMemory>
 {
     match made {
         Op::PutVertex(v, tag, vals, absent) => {
-            out.put_byte(1)?;
+            out.put_byte(PUT_CHANGE)?;
             put_vid(out, v, form)?;
             out.put_u32(*tag)?;
             out.put_flag(*absent)?;
             put_row(out, vals)
         }
         Op::DelVertex(v) => {
-            out.put_byte(2)?;
+            out.put_byte(DELETE_CHANGE)?;
             put_vid(out, v, form)
         }
         Op::PutEdges(..) | Op::DelEdges(_) | Op::Read(_) => unreachable!(),
@@ -208,44 +213,44 @@ pub fn put_entry(out: &mut Writer, made: &PartEntry, form: IdForm) -> Result<(),
 {
     match made {
         PartEntry::Prime(id, list, absent) => {
-            out.put_byte(1)?;
+            out.put_byte(PRIME_ENTRY)?;
             put_call(out, id)?;
             out.put_flag(*absent)?;
             put_halves(out, list, form)
         }
         PartEntry::Local(v) => {
-            out.put_byte(2)?;
+            out.put_byte(LOCAL_ENTRY)?;
             out.put_u64(*v)
         }
         PartEntry::Double(v) => {
-            out.put_byte(3)?;
+            out.put_byte(DOUBLE_ENTRY)?;
             out.put_u64(*v)
         }
         PartEntry::Close(v) => {
-            out.put_byte(4)?;
+            out.put_byte(CLOSE_ENTRY)?;
             out.put_u64(*v)
         }
         PartEntry::Abort(v) => {
-            out.put_byte(5)?;
+            out.put_byte(ABORT_ENTRY)?;
             out.put_u64(*v)
         }
         PartEntry::Remote(source, term, v, list) => {
-            out.put_byte(6)?;
+            out.put_byte(REMOTE_ENTRY)?;
             put_sent(out, *source, *term, *v)?;
             put_halves(out, list, form)
         }
         PartEntry::Fence(source, term, v, list) => {
-            out.put_byte(7)?;
+            out.put_byte(FENCE_ENTRY)?;
             put_sent(out, *source, *term, *v)?;
             put_edges(out, list, form)
         }
         PartEntry::Vertex(id, change) => {
-            out.put_byte(8)?;
+            out.put_byte(VERTEX_ENTRY)?;
             put_call(out, id)?;
             put_change(out, change, form)
         }
         PartEntry::Read(id, query) => {
-            out.put_byte(9)?;
+            out.put_byte(READ_ENTRY)?;
             put_call(out, id)?;
             put_query(out, query, form)
         }

@@ -18,6 +18,7 @@
 mod chain;
 mod entries;
 mod entry;
+mod entry_kinds;
 mod in_half;
 mod key;
 mod key_bytes;

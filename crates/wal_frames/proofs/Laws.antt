@@ -135,7 +135,7 @@ item_again (Payload bytes) fits = refl
 
 -- ---- entries
 
-entry_takes : (bytes : List ℕ) (e : Entry) (rest : List ℕ) → IsBytes bytes → entry_at bytes ≡ Ok (e, rest) → Takes bytes (entry e) rest × FitsEntry e
+pub entry_takes : (bytes : List ℕ) (e : Entry) (rest : List ℕ) → IsBytes bytes → entry_at bytes ≡ Ok (e, rest) → Takes bytes (entry e) rest × FitsEntry e
 unfolding entry_at
 entry_takes bytes x rest fits e =
     let a = bind_ok (number_at 8 bytes) (λ term. number_at 4 term.1 >>= λ len. inside len.0 item_of len.1 >>= λ i. Ok (record { term = term.0; item = i.0 }, i.1)) (x, rest) e in
@@ -151,7 +151,7 @@ entry_takes bytes x rest fits e =
     let is : FitsEntry made.0 = record { term = t.1; len = subst (λ (n : ℕ). n < 2 ^ 32) (sym v.2) u.1; item_fits = v.1 } in
     subst (λ (p : Entry × List ℕ). Takes bytes (entry p.0) p.1 × FitsEntry p.0) (ok_is made (x, rest) d.2) (all, is)
 
-entry_again : (e : Entry) (rest : List ℕ) → FitsEntry e → entry_at (entry e ++ rest) ≡ Ok (e, rest)
+pub entry_again : (e : Entry) (rest : List ℕ) → FitsEntry e → entry_at (entry e ++ rest) ≡ Ok (e, rest)
 unfolding entry_at
 entry_again e rest fits =
     let regrouped : entry e ++ rest ≡ number 8 e.term ++ (number 4 (length (item e.item)) ++ (item e.item ++ rest)) = append_assoc (number 8 e.term ++ number 4 (length (item e.item))) (item e.item) rest ∙ append_assoc (number 8 e.term) (number 4 (length (item e.item))) (item e.item ++ rest) in

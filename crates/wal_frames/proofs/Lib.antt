@@ -3,4 +3,3 @@ pub mod Peers
 pub mod Within
 pub mod Laws
 pub mod Decoding
-pub mod Lengths

@@ -95,7 +95,12 @@ fn read_entry(alloc: Global, bytes: &[u8]) -> Result<(Entry, &[u8]), ReadRefused
     }
 }
 
-fn read_many(alloc: Global, bytes: &[u8], count: u32) -> Result<(Entries, &[u8]), ReadRefused>
+/// `count` entries, and the bytes after them. Refused at the first field that doesn't fit, or for want of memory.
+pub fn read_counted(
+    alloc: Global,
+    bytes: &[u8],
+    count: u32,
+) -> Result<(Entries, &[u8]), ReadRefused>
     ensures { Gives (λ x. (x.0, x.1.now)) result (many_at entry_at count bytes.now) }
 {
     let mut entries = Listed::new(alloc);
@@ -115,7 +120,7 @@ pub fn read_entries(alloc: Global, bytes: &[u8]) -> Result<(Entries, &[u8]), Rea
     ensures { Gives (λ x. (x.0, x.1.now)) result (entries_at bytes.now) }
 {
     let (count, rest) = read_u32(bytes)?;
-    read_many(alloc, rest, count)
+    read_counted(alloc, rest, count)
 }
 
 #[tactic(auto, unfolding(crate::specs::Reading::body_at, byte_fields::specs::Reading::whole))]

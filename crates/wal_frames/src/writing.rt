@@ -2,7 +2,7 @@
 ghost use Rattle.std.specs.Prelude.{◌≡◌, ◌<◌, ◌^◌, ◌++◌, length, IfOk, OnOk};
 ghost use Rattle.std.specs.List.{flat_map, AllByRecursion};
 ghost use Rattle.raft_log.specs.Config.{IsConfig, IsItem, AreEntries};
-ghost use Rattle.byte_fields.specs.Frames.{HasFrame, IsFrame};
+ghost use Rattle.byte_fields.specs.Frames.{IsFrame};
 ghost use Rattle.wal_frames.specs.Spelling.{config, item, entry, entries, body, FitsConfig, FitsItem, FitsEntry, FitEntries, FitsRecord};
 
 use byte_fields::{CLOSED_GATE, Frame, Writer};
@@ -42,8 +42,7 @@ fn put_item(out: &mut Writer, held: &Item) -> Result<(), NoMemory>
 }
 
 fn put_entry(out: &mut Writer, made: &Entry) -> Result<(), NoMemory>
-    requires item { IsItem made.now.item }
-    requires fits { length (item made.now.item) < 2 ^ 32 }
+    requires { IsItem made.now.item }
     ensures ok { OnOk result (out.new ≡ out.old ++ entry made.now) }
     ensures fits { OnOk result (FitsEntry made.now) }
 {
@@ -51,13 +50,12 @@ fn put_entry(out: &mut Writer, made: &Entry) -> Result<(), NoMemory>
     let at = out.len();
     out.put_u32(0)?;
     put_item(out, &made.item)?;
-    out.fill_length(at);
+    out.fill_length(at)?;
     Ok(())
 }
 
 fn put_each(out: &mut Writer, list: &[Entry]) -> Result<(), NoMemory>
-    requires are { AreEntries list.now }
-    requires fits { length (flat_map entry list.now) < 2 ^ 32 }
+    requires { AreEntries list.now }
     ensures ok { OnOk result (out.new ≡ out.old ++ flat_map entry list.now) }
     ensures fits { OnOk result (AllByRecursion FitsEntry list.now) }
 {
@@ -67,22 +65,22 @@ fn put_each(out: &mut Writer, list: &[Entry]) -> Result<(), NoMemory>
     Ok(())
 }
 
-/// Puts entries behind their count. After a refusal, which comes for want of memory alone, some of them may stand.
-/// Entries that were put have a spelling that `read_entries` reads again.
+/// Puts entries behind their count. Refused for want of memory, and for a number of entries or a length of an item that
+/// doesn't fit 4 bytes; some of them may stand then. Entries that were put have a spelling that `read_entries` reads again.
 pub fn put_entries(out: &mut Writer, list: &Entries) -> Result<(), NoMemory>
-    requires are { AreEntries list.now }
-    requires fits { length (entries list.now) < 2 ^ 32 }
+    requires { AreEntries list.now }
     ensures ok { OnOk result (out.new ≡ out.old ++ entries list.now) }
     ensures fits { OnOk result (FitEntries list.now) }
 {
+    if list.len() > u32::MAX as usize {
+        return Err(NoMemory);
+    }
     out.put_u32(list.len() as u32)?;
-    put_each(out, list.as_slice())?;
-    Ok(())
+    put_each(out, list.as_slice())
 }
 
 fn put_body(out: &mut Writer, made: &Record) -> Result<(), NoMemory>
-    requires are { AreEntries made.now.entries }
-    requires fits { length (body made.now) < 2 ^ 32 }
+    requires { AreEntries made.now.entries }
     ensures ok { OnOk result (out.new ≡ out.old ++ body made.now) }
     ensures fits { OnOk result (FitsRecord made.now) }
 {
@@ -92,18 +90,17 @@ fn put_body(out: &mut Writer, made: &Record) -> Result<(), NoMemory>
     put_entries(out, &made.entries)
 }
 
-/// The record's frame. Its configurations are ones, and its body's length fits four bytes. Refused for want of
-/// memory alone; a record that has a frame is one that `decode` reads again.
+/// The record's frame. Its configurations are ones. Refused for want of memory, and for a body whose length doesn't fit
+/// four bytes; a record that has a frame is one that `decode` reads again.
 pub fn encode(alloc: Global, made: &Record) -> Result<Frame, NoMemory>
-    requires are { AreEntries made.now.entries }
-    requires fits { HasFrame (body made.now) }
+    requires { AreEntries made.now.entries }
     ensures ok { IfOk result (λ frame. IsFrame (body made.now) frame) }
     ensures fits { OnOk result (FitsRecord made.now) }
 {
     let mut out = Writer::new(alloc);
     out.put_u32(0)?;
     put_body(&mut out, made)?;
-    out.fill_length(0);
+    out.fill_length(0)?;
     out.put_byte(CLOSED_GATE)?;
     Ok(out.into_bytes())
 }

@@ -2,7 +2,7 @@ use Rattle.std.proofs.lemmas.Result.{err_from_is_err_and}
 use Rattle.byte_fields.specs.Reading.{many_at}
 use Rattle.byte_fields.proofs.Loops.{many_goes_on, many_ends, many_done}
 use Rattle.wal_frames.specs.Reading.{entry_at}
-use Rattle.wal_frames.proofs.reading.read_many.Goals as goal
+use Rattle.wal_frames.proofs.reading.read_counted.Goals as goal
 
 pub returns-in_err-entry : goal.returns-in_err-entry
 returns-in_err-entry c =
