@@ -8,6 +8,9 @@ use Rattle.byte_fields.specs.declared.misfit.Misfit.{Misfit}
 use Rattle.byte_fields.specs.Reading.{◌>>=◌, misfit, byte_at, number_at, signed_at, flag_at, run_at, id_at, many_at, both_at, made_at, such_at, count_at, counted_at, each_at}
 use Rattle.maps.specs.Keys.{has_key}
 use Rattle.graph_model.specs.Names.{name_of}
+use Rattle.graph_model.specs.Edges.{most_edges}
+use Rattle.graph_model.specs.Types.{most_types}
+use Rattle.graph_bytes.specs.Names.{most_text}
 use Rattle.graph_bytes.specs.Kinds.{number_id, text_id, null_value, int_value, flag_value, words_value, absent_half, here_half, tag_query, edge_query, out_query, in_query, both_query, tag_found, edge_found}
 use Rattle.graph_bytes.specs.declared.id_form.IdForm.{IdForm}
 use Rattle.graph_bytes.specs.declared.id_form.IdForm.TheVariants.{Bare, Tagged}
@@ -32,7 +35,7 @@ utf8_at n bytes = such_at is_utf8 (run_at n) bytes
 
 -- a text of at most 32 bytes behind its length
 unfoldable pub short_text_at : List ℕ → Result (List ℕ × List ℕ) Misfit
-short_text_at bytes = counted_at (count_at 0 32) utf8_at bytes
+short_text_at bytes = counted_at (count_at 0 most_text) utf8_at bytes
 
 -- a text id
 unfoldable pub name_at : List ℕ → Result (names.Name × List ℕ) Misfit
@@ -112,7 +115,7 @@ new_edges_at form n known bytes = each_at grown (new_edge_at form) n known bytes
 
 -- 1 to 64 edges behind their count, none twice
 unfoldable pub edges_at : IdForm → List ℕ → Result (List EdgeId × List ℕ) Misfit
-edges_at form bytes = counted_at (count_at 1 64) (λ n rest. new_edges_at form n [] rest) bytes
+edges_at form bytes = counted_at (count_at 1 most_edges) (λ n rest. new_edges_at form n [] rest) bytes
 
 -- an edge that isn't among these, and its half
 unfoldable pub new_half_at : IdForm → List (EdgeId × Half) → List ℕ → Result ((EdgeId × Half) × List ℕ) Misfit
@@ -124,7 +127,7 @@ new_halves_at form n known bytes = each_at grown (new_half_at form) n known byte
 
 -- 1 to 64 edges with their halves, behind their count, no edge twice
 unfoldable pub halves_at : IdForm → List ℕ → Result (List (EdgeId × Half) × List ℕ) Misfit
-halves_at form bytes = counted_at (count_at 1 64) (λ n rest. new_halves_at form n [] rest) bytes
+halves_at form bytes = counted_at (count_at 1 most_edges) (λ n rest. new_halves_at form n [] rest) bytes
 
 -- n types, rising, the first above `low`
 abbrev pub rising_types_at : ℕ → ℤ → List ℕ → Result (List ℤ × List ℕ) Misfit
@@ -132,7 +135,7 @@ rising_types_at n low bytes = each_at (λ before t. t) type_at n low bytes
 
 -- at most 64 types behind their count, positive and rising
 unfoldable pub types_at : List ℕ → Result (List ℤ × List ℕ) Misfit
-types_at bytes = counted_at (count_at 0 64) (λ n rest. rising_types_at n (pos 0) rest) bytes
+types_at bytes = counted_at (count_at 0 most_types) (λ n rest. rising_types_at n (pos 0) rest) bytes
 
 -- a vertex and types
 unfoldable pub around_at : IdForm → List ℕ → Result ((Vid × List ℤ) × List ℕ) Misfit

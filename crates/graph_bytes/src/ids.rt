@@ -1,7 +1,7 @@
 //! Ids of vertices.
 ghost use Rattle.std.specs.Prelude.{◌≡◌, ◌≤◌, ◌++◌, length, OnOk, IfOk};
 ghost use Rattle.byte_fields.specs.Reading.{Reads};
-ghost use Rattle.graph_bytes.specs.Names.{IsName};
+ghost use Rattle.graph_bytes.specs.Names.{most_text, IsName};
 ghost use Rattle.graph_bytes.specs.Spelling.{name, vid};
 ghost use Rattle.graph_bytes.specs.Fits.{HasSpellingVid, FitsVid};
 ghost use Rattle.graph_bytes.specs.Reading.{utf8_at, short_text_at, name_at, tagged_at, vid_at};
@@ -11,6 +11,9 @@ use crate::kinds::{NUMBER_ID, TEXT_ID};
 use byte_fields::{Misfit, Writer, read_count, read_i64, read_run};
 use graph_model::{Name, Vid};
 use lists::NoMemory;
+
+/// The most bytes of a text id.
+const MOST_TEXT: u8 = 32;
 
 /// `count` bytes that are UTF-8, and the bytes after them.
 #[tactic(auto, unfolding(crate::specs::Reading::utf8_at, byte_fields::specs::Reading::such_at))]
@@ -29,9 +32,9 @@ pub fn read_utf8(bytes: &[u8], count: usize) -> Result<(&[u8], &[u8]), Misfit>
 #[tactic(auto, unfolding(crate::specs::Reading::short_text_at, byte_fields::specs::Reading::counted_at))]
 fn read_short_text(bytes: &[u8]) -> Result<(&[u8], &[u8]), Misfit>
     ensures read { Reads (λ x. (x.0.now, x.1.now)) result (short_text_at bytes.now) }
-    ensures short { IfOk result (λ x. length x.0.now ≤ 32) }
+    ensures short { IfOk result (λ x. length x.0.now ≤ most_text) }
 {
-    let (count, rest) = read_count(bytes, 0, 32)?;
+    let (count, rest) = read_count(bytes, 0, MOST_TEXT)?;
     let (text, rest) = read_utf8(rest, count as usize)?;
     Ok((text, rest))
 }

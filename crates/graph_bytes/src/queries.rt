@@ -4,7 +4,7 @@ ghost use Rattle.std.specs.Int.{w32};
 ghost use Rattle.std.specs.List.{flat_map, AllByRecursion};
 ghost use Rattle.byte_fields.specs.Fields.{signed};
 ghost use Rattle.byte_fields.specs.Reading.{Reads, Gives};
-ghost use Rattle.graph_model.specs.Types.{AreTypes};
+ghost use Rattle.graph_model.specs.Types.{most_types, AreTypes};
 ghost use Rattle.graph_bytes.specs.Spelling.{around, query};
 ghost use Rattle.graph_bytes.specs.Fits.{HasSpellingVid, HasSpellingQuery, FitsAround, FitsQuery};
 ghost use Rattle.graph_bytes.specs.Reading.{rising_types_at, types_at, around_at, tag_at, query_at};
@@ -14,16 +14,16 @@ use crate::id_form::IdForm;
 use crate::ids::{put_vid, read_vid};
 use crate::kinds::{BOTH_QUERY, EDGE_QUERY, IN_QUERY, OUT_QUERY, TAG_QUERY};
 use byte_fields::{Misfit, ReadRefused, Writer, read_count, read_u32};
-use graph_model::{Query, Types, Vid};
+use graph_model::{MOST_TYPES, Query, Types, Vid};
 use lists::NoMemory;
 use std::alloc::Global;
 
 // `count` types, positive and rising.
 fn read_rising(alloc: Global, bytes: &[u8], count: u8) -> Result<(Types, &[u8]), ReadRefused>
-    requires { count ≤ 64 }
+    requires { count ≤ most_types }
     ensures { Gives (λ x. (x.0, x.1.now)) result (rising_types_at count (pos 0) bytes.now) }
 {
-    let mut list = [0; 64];
+    let mut list = [0; MOST_TYPES];
     let mut rest = bytes;
     let mut last = 0;
     for i in 0..count as usize {
@@ -40,7 +40,7 @@ fn read_rising(alloc: Global, bytes: &[u8], count: u8) -> Result<(Types, &[u8]),
 fn read_types(alloc: Global, bytes: &[u8]) -> Result<(Types, &[u8]), ReadRefused>
     ensures { Gives (λ x. (x.0, x.1.now)) result (types_at bytes.now) }
 {
-    let (count, rest) = read_count(bytes, 0, 64)?;
+    let (count, rest) = read_count(bytes, 0, MOST_TYPES as u8)?;
     read_rising(alloc, rest, count)
 }
 

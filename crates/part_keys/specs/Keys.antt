@@ -4,7 +4,7 @@ use Rattle.std.specs.Prelude.{ℕ, ◌+◌, ◌%◌, ◌^◌, ◌<◌, ◌≤◌
 use Rattle.std.specs.Int.{Width, w32, w64, byte_len, cast_unsigned}
 use mir.Val.{bits, hbits}
 use Rattle.byte_fields.specs.Fields.{number}
-use Rattle.graph_bytes.specs.Names.{IsName}
+use Rattle.graph_bytes.specs.Names.{most_text, IsName}
 use Rattle.graph_bytes.specs.Fits.{IsSmall}
 use Rattle.graph_model.specs.declared.edge_id.EdgeId.{EdgeId}
 use Rattle.graph_model.specs.declared.vid.Vid.{Vid}
@@ -76,7 +76,7 @@ key kind (Client part client) = client_kind ∷ (number 3 part ++ number 4 clien
 -- a kind of ids: texts have at most 32 bytes
 abbrev pub IsKind : VidKind → Type 0
 IsKind kinds.Num = Unit {0}
-IsKind (kinds.Name most) = (1 ≤ most) × (most ≤ 32)
+IsKind (kinds.Name most) = (1 ≤ most) × (most ≤ most_text)
 
 -- an id of the kind: a text has at most its number of bytes
 abbrev pub IsOf : VidKind → Vid → Type 0
