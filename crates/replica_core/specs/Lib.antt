@@ -1,4 +1,5 @@
 pub mod Spelling
+pub mod Bytes
 pub mod Replica
 pub mod Asks
 pub mod Letters

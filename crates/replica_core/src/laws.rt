@@ -9,6 +9,7 @@ ghost use Rattle.replica_core.specs.declared.input.Input.{Input};
 ghost use Rattle.replica_core.specs.Replica.{Home, Replica, fresh};
 ghost use Rattle.replica_core.specs.Stepped.{stepped};
 ghost use Rattle.replica_core.specs.Laws.{HaveRounds, AnswersConfirmed, KeepsRounds, DropsRows, HintsStand, KeepsHints, UsesHints, HintsGo, IsNoRemote, IsNoFence};
+ghost use Rattle.replica_core.specs.Bytes.{BytesAreSpelled, NothingElseIsSpelled, EntriesAreRead, NothingElseIsRead};
 ghost use Rattle.replica_core.specs.Worked.{IsNoPayload, IsOfNoPart, IsTurnedAway, IsFromNoPeer};
 
 /// Term, vote and log behind a step are those before it, changed by the step's one record, and the same where it has none:
@@ -25,6 +26,15 @@ pub fn reads_wait()
     ensures waits { (home : Home) (r : Replica) (i : Input) → AnswersConfirmed home r (stepped home r i) }
     ensures begins { (core : Core) → HaveRounds (fresh core).rows }
     ensures kept { (home : Home) (r : Replica) (i : Input) → KeepsRounds r (stepped home r i) }
+{}
+
+/// The bytes of entries are a spelling, in each version: an entry that fits is spelled as its bytes, and nothing else is; what all
+/// of the bytes are is read of them, and where some field doesn't fit nothing is.
+pub fn bytes_are_a_spelling()
+    ensures spelled { BytesAreSpelled }
+    ensures no_other { NothingElseIsSpelled }
+    ensures read { EntriesAreRead }
+    ensures none { NothingElseIsRead }
 {}
 
 /// A replica that doesn't lead the same term on, or whose last configuration changed, keeps no read that waits.

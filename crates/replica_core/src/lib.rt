@@ -22,5 +22,8 @@ mod laws;
 mod packet;
 
 pub use input::{Input, Tick};
-pub use laws::{from_no_client, hints_go, one_record, reads_wait, rows_are_dropped, worked_asks};
+pub use laws::{
+    bytes_are_a_spelling, from_no_client, hints_go, one_record, reads_wait, rows_are_dropped,
+    worked_asks,
+};
 pub use packet::{Body, Packet, Place, To};
