@@ -1,0 +1,13 @@
+pub mod SameKeys
+pub mod ReadBack
+pub mod Reading
+pub mod Changing
+pub mod Facing
+pub mod Standing
+pub mod Fitting
+pub mod ListWrites
+pub mod Changes
+pub mod Doubling
+pub mod OneState
+pub mod TagsRead
+pub mod Blank

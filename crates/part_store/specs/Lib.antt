@@ -1,0 +1,7 @@
+pub mod Settings
+pub mod Values
+pub mod Facts
+pub mod Keeps
+pub mod Reads
+pub mod Writes
+pub mod Laws
