@@ -1,0 +1,6 @@
+mod InOrder
+mod KeyRead
+mod Facts
+mod Prefix
+mod Seen
+mod Shown
