@@ -1,0 +1,6 @@
+pub mod KindFormats
+pub mod EndFormats
+pub mod AnswerFormats
+pub mod FieldFormats
+pub mod BodyFormats
+pub mod PacketFormats
