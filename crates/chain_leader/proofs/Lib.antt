@@ -3,6 +3,8 @@ pub mod Alike
 pub mod Naming
 pub mod Proposing
 pub mod Sent
+pub mod TakingUp
+pub mod Applying
 pub mod Halves
 pub mod Modal
 pub mod Silence

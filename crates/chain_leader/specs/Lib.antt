@@ -4,6 +4,8 @@ pub mod Table
 pub mod Rows
 pub mod Leading
 pub mod Leader
+pub mod Resuming
+pub mod Applying
 pub mod Laws
 pub mod Names
 pub mod Modes

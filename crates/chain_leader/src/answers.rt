@@ -1,5 +1,5 @@
 //! What a client's call is answered.
-ghost use Rattle.std.specs.Prelude.{◌≡◌};
+ghost use Rattle.std.specs.Prelude.{◌≡◌, [], if◌then◌else◌};
 ghost use Rattle.std.specs.Option.{option_to_list};
 ghost use Rattle.chain_leader.specs.Calls.{is_write, call_in, answer_of};
 ghost use Rattle.chain_leader.specs.Leading.{told, back_of, reply_to, chain_in};
@@ -92,6 +92,13 @@ pub fn back_of(entry: &PartEntry, said: &Applied) -> Option<Letter>
         PartEntry::Fence(_, term, v, _) => reply_to(*term, *v, said),
         _ => None,
     }
+}
+
+/// The letter to that sender, where the leader proposed the entry itself.
+pub(crate) fn back_where(own: bool, entry: &PartEntry, said: &Applied) -> Option<Letter>
+    ensures { option_to_list result ≡ (if own then back_of entry.now said.now else []) }
+{
+    if own { back_of(entry, said) } else { None }
 }
 
 /// What a Remote or Fence of that term and chain is answered.

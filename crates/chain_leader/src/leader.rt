@@ -1,21 +1,24 @@
 //! A leader of a part.
-ghost use Rattle.std.specs.Prelude.{◌≡◌, ◌≤◌, ◌<◌, ◌-◌, OnOk, OnErr, IfOk, Some, [], ◌∷◌, if◌then◌else◌};
+ghost use Rattle.std.specs.Prelude.{◌≡◌, ◌<◌, [], ◌∷◌, if◌then◌else◌};
 ghost use Rattle.std.specs.Option.{option_to_list};
 ghost use Rattle.part_keys.specs.Routing.{is_payload};
+ghost use Rattle.part_rules.specs.Part.{Part};
+ghost use Rattle.part_rules.specs.View.{view};
+ghost use Rattle.graph_model.specs.declared.query.Query.{Query};
 ghost use Rattle.chain_leader.specs.Calls.{is_write};
-ghost use Rattle.chain_leader.specs.Rules.{resume};
-ghost use Rattle.chain_leader.specs.Leading.{begins, sends};
-ghost use Rattle.chain_leader.specs.Leader.{said_of, resumption};
-ghost use Rattle.std.specs.FinMap as fin;
+ghost use Rattle.chain_leader.specs.Leading.{read};
 
-use crate::answers::{chain_in, is_write};
+use crate::answers::{back_where, chain_in, is_write, told};
 use crate::body::ChainBody;
+use crate::item_letters::ItemLetters;
 use crate::letter::Letter;
-use crate::rules::{give_up, message, mode_for, on_fence, on_primed, on_remote, resume};
-use crate::table::{ChainTable, next_try};
-use graph_model::{CallId, EdgeHalves};
-use lists::NoMemory;
-use part_keys::{ChainMsg, PartEntry, Policy, PrimeRec, VidKind, is_payload};
+use crate::new_chain::{NewChain, beginning};
+use crate::resuming::{TakenUp, go_further, resumptions, rows_for, take_up_all};
+use crate::rules::{give_up, on_fence, on_remote};
+use crate::table::ChainTable;
+use graph_model::{Answer, CallId, View};
+use lists::{Listed, NoMemory};
+use part_keys::{PartEntry, Policy, PrimeRec, Proposal, VidKind, is_payload};
 use part_rules::Applied;
 use std::alloc::Global;
 
@@ -28,13 +31,15 @@ pub struct Leader {
 }
 
 impl Leader {
-    ghost use Rattle.std.specs.Prelude.{◌≡◌, ◌≤◌, ◌<◌, ◌-◌, ℕ, false, [], ◌∷◌, OnOk, OnErr, IfOk};
+    ghost use Rattle.std.specs.Prelude.{◌≡◌, ◌≤◌, ◌<◌, ◌-◌, ℕ, Option, false, [], ◌++◌, map, length, OnOk, OnErr, IfOk, IfSome};
     ghost use Rattle.std.specs.Option.{option_copied, option_to_list};
     ghost use Rattle.part_keys.specs.declared.vid_kind.VidKind.{VidKind};
     ghost use Rattle.part_rules.specs.Part.{Part};
     ghost use Rattle.chain_leader.specs.declared.body.ChainBody.TheVariants as says;
-    ghost use Rattle.chain_leader.specs.Leading.{idle, given_up, pulsed, taken, chain_in, forgetting, ruled_by, started};
+    ghost use Rattle.chain_leader.specs.Leading.{idle, given_up, pulsed, taken, answers_of, chain_in, forgetting, started, on_entry, on_item};
     ghost use Rattle.chain_leader.specs.Leader.{leads, is_resume, StandsBehind, BeganBehind};
+    ghost use Rattle.chain_leader.specs.Resuming.{AreStanding, row_for, all_taken_up, resumed_by};
+    ghost use Rattle.chain_leader.specs.Applying.{IsBehind, begun_with, entry_by};
 
     /// A replica that doesn't lead.
     pub fn idle(alloc: Global) -> Self
@@ -113,31 +118,21 @@ impl Leader {
         Some(Letter::Again(None))
     }
 
-    /// What the rules make of an entry's answer: `begun` is the record of the chain that began, as it stands behind the entry.
-    /// Refused for want of memory alone.
-    pub fn ruled(
-        &mut self,
-        alloc: Global,
-        term: u64,
-        said: &Applied,
-        begun: Option<&PrimeRec>,
-    ) -> Result<Option<Letter>, NoMemory>
-        ensures table { (behind : Part) → BeganBehind behind said.now (option_copied begun.entry) → OnOk result (leads self.new ≡ record (leads self.old) { table = (ruled_by self.old.ready term self.old.table.0 behind said.now).table }) }
-        ensures sent { (behind : Part) → BeganBehind behind said.now (option_copied begun.entry) → IfOk result (λ letter. option_to_list letter ≡ (ruled_by self.old.ready term self.old.table.0 behind said.now).letters) }
-        ensures err { OnErr result (leads self.new ≡ leads self.old) }
+    /// The chain that begins is added where the leader is ready, and its letter leaves. It takes no memory.
+    fn begins(&mut self, made: Option<NewChain>) -> Option<Letter>
+        requires { IfSome made (λ _. 0 < self.old.table.1) }
+        ensures table { leads self.new ≡ record (leads self.old) { table = (begun_with self.old.ready self.old.table.0 made).table } }
+        ensures sent { option_to_list result ≡ (begun_with self.old.ready self.old.table.0 made).letters }
         ensures room { self.old.table.1 - 1 ≤ self.new.table.1 }
     {
+        let Some(NewChain { v, chain, letter }) = made else {
+            return None;
+        };
         if !self.ready {
-            return Ok(None);
+            return None;
         }
-        let Applied::Begun(_) = said else {
-            return Ok(None);
-        };
-        let Some(rec) = begun else {
-            return Ok(None);
-        };
-        let letter = begins(alloc, term, &mut self.table, rec)?;
-        Ok(Some(letter))
+        self.table.add(v, chain);
+        Some(letter)
     }
 
     /// The chain that an applied entry may end is forgotten, where its record is gone. Nothing else of the leader changes, and
@@ -153,6 +148,137 @@ impl Leader {
             return;
         }
         self.table.forget(v);
+    }
+
+    /// What a leader makes of an entry that it applies, where the chain that begins is prepared: `stands` tells whether the chain
+    /// that the entry may end stands behind it. It takes no memory.
+    pub fn applied(
+        &mut self,
+        own: bool,
+        entry: &PartEntry,
+        said: &Applied,
+        made: Option<NewChain>,
+        stands: bool,
+    ) -> ItemLetters
+        requires { IfSome made (λ _. 0 < self.old.table.1) }
+        ensures leading { (behind : Part) → StandsBehind behind (chain_in entry.now) stands → leads self.new ≡ (entry_by (leads self.old) own entry.now said.now made behind).leading }
+        ensures answers { option_to_list result.told ++ option_to_list result.back ≡ answers_of own entry.now said.now }
+        ensures rules { (behind : Part) → StandsBehind behind (chain_in entry.now) stands → option_to_list result.rule ≡ (entry_by (leads self.old) own entry.now said.now made behind).rules }
+        ensures room { self.old.table.1 - 1 ≤ self.new.table.1 }
+    {
+        self.forgets(entry, stands);
+        ItemLetters {
+            told: told(entry, said),
+            back: back_where(own, entry, said),
+            rule: self.begins(made),
+        }
+    }
+
+    /// What a leader of that term makes of an item of the term `of` when it applies it: `said` is the item's answer, `begun` the
+    /// record of the chain that it began, and `stands` tells whether the chain that it may end stands behind it. Refused for
+    /// want of memory alone, and then all is as before.
+    pub fn on_item(
+        &mut self,
+        alloc: Global,
+        term: u64,
+        of: u64,
+        item: &Proposal,
+        said: &Applied,
+        begun: Option<&PrimeRec>,
+        stands: bool,
+    ) -> Result<ItemLetters, NoMemory>
+        ensures leading { (parts index : ℕ) (machine : Part) → IsBehind parts index item.now machine said.now (option_copied begun.entry) stands → OnOk result (leads self.new ≡ (on_item parts term machine (leads self.old) index (of, item.now)).leading) }
+        ensures answers { (parts index : ℕ) (machine : Part) → IsBehind parts index item.now machine said.now (option_copied begun.entry) stands → IfOk result (λ sent. option_to_list sent.told ++ option_to_list sent.back ≡ (on_item parts term machine (leads self.old) index (of, item.now)).answers) }
+        ensures rules { (parts index : ℕ) (machine : Part) → IsBehind parts index item.now machine said.now (option_copied begun.entry) stands → IfOk result (λ sent. option_to_list sent.rule ≡ (on_item parts term machine (leads self.old) index (of, item.now)).rules) }
+        ensures err { OnErr result (leads self.new ≡ leads self.old) }
+        ensures room { self.old.table.1 - 1 ≤ self.new.table.1 }
+    {
+        match item {
+            Proposal::Start => Ok(ItemLetters::of_rule(self.started(of == term))),
+            Proposal::Members(_) => Ok(ItemLetters::nothing()),
+            Proposal::Made(entry) => {
+                let sent = self.on_entry(alloc, term, of == term, entry, said, begun, stands)?;
+                Ok(sent)
+            }
+            Proposal::Blank => Ok(ItemLetters::nothing()),
+        }
+    }
+
+    /// What a leader of that term makes of an entry, one of its own term or another.
+    fn on_entry(
+        &mut self,
+        alloc: Global,
+        term: u64,
+        own: bool,
+        entry: &PartEntry,
+        said: &Applied,
+        begun: Option<&PrimeRec>,
+        stands: bool,
+    ) -> Result<ItemLetters, NoMemory>
+        ensures leading { (behind : Part) → BeganBehind behind said.now (option_copied begun.entry) → StandsBehind behind (chain_in entry.now) stands → OnOk result (leads self.new ≡ (on_entry term (leads self.old) own entry.now (behind, said.now)).leading) }
+        ensures answers { IfOk result (λ sent. option_to_list sent.told ++ option_to_list sent.back ≡ answers_of own entry.now said.now) }
+        ensures rules { (behind : Part) → BeganBehind behind said.now (option_copied begun.entry) → StandsBehind behind (chain_in entry.now) stands → IfOk result (λ sent. option_to_list sent.rule ≡ (on_entry term (leads self.old) own entry.now (behind, said.now)).rules) }
+        ensures err { OnErr result (leads self.new ≡ leads self.old) }
+        ensures room { self.old.table.1 - 1 ≤ self.new.table.1 }
+    {
+        let made = beginning(alloc, term, said, begun)?;
+        self.table.reserve(1)?;
+        let sent = self.applied(own, entry, said, made, stands);
+        Ok(sent)
+    }
+
+    /// What a leader of that term makes of a Resume of the term `of`: `standing` are the first chains that stand behind its
+    /// place, 64 or all where there are fewer, and `more` tells whether more stand there. Refused for want of memory alone, and
+    /// then all is as before.
+    pub fn resumed(
+        &mut self,
+        alloc: Global,
+        term: u64,
+        of: u64,
+        standing: &[PrimeRec],
+        more: bool,
+    ) -> Result<Listed<Letter>, NoMemory>
+        ensures leading { (ids : VidKind) (parts part from : ℕ) (machine : Part) (after : Option ℕ) → AreStanding machine after standing.now more → OnOk result (leads self.new ≡ (taken ids parts part term machine (leads self.old) (says.Resume of after) from).leading) }
+        ensures sent { (ids : VidKind) (parts part from : ℕ) (machine : Part) (after : Option ℕ) → AreStanding machine after standing.now more → IfOk result (λ letters. letters ≡ (taken ids parts part term machine (leads self.old) (says.Resume of after) from).letters) }
+        ensures err { OnErr result (leads self.new ≡ leads self.old) }
+    {
+        if !self.ready {
+            return Ok(Listed::new(alloc));
+        }
+        if of != term {
+            return Ok(Listed::new(alloc));
+        }
+        let made = self.prepared(alloc, term, standing, more)?;
+        self.table.reserve(made.rows.len())?;
+        Ok(self.takes_up(made))
+    }
+
+    /// What a step of Resume takes, for a leader of that term. Refused for want of memory alone.
+    pub fn prepared(
+        &self,
+        alloc: Global,
+        term: u64,
+        standing: &[PrimeRec],
+        more: bool,
+    ) -> Result<TakenUp, NoMemory>
+        ensures letters { IfOk result (λ made. made.letters ≡ (resumed_by term (leads self.now) standing.now more).letters) }
+        ensures rows { IfOk result (λ made. made.rows.items ≡ map (row_for self.now.policy) standing.now) }
+    {
+        let mut letters = resumptions(alloc, term, &self.table, standing, self.policy)?;
+        go_further(&mut letters, standing, more)?;
+        let rows = rows_for(alloc, standing, self.policy)?;
+        Ok(TakenUp { letters, rows })
+    }
+
+    /// A step of Resume, where there is a spare row for each of its rows. It takes no memory.
+    pub fn takes_up(&mut self, made: TakenUp) -> Listed<Letter>
+        requires { length made.rows.items ≤ self.old.table.1 }
+        ensures leading { leads self.new ≡ record (leads self.old) { table = all_taken_up made.rows.items self.old.table.0 } }
+        ensures sent { result ≡ made.letters }
+    {
+        let TakenUp { letters, rows } = made;
+        take_up_all(&mut self.table, rows);
+        letters
     }
 
     /// What a leader of the part and term makes of what a packet from that part says, but for a Resume. It takes no
@@ -220,72 +346,9 @@ fn proposing(ids: VidKind, parts: u32, part: u32, entry: PartEntry) -> Option<Pa
     }
 }
 
-/// What a message says, for a chain with that list, by a leader of that term.
-fn said_of(
-    alloc: Global,
-    term: u64,
-    list: &EdgeHalves,
-    message: ChainMsg,
-) -> Result<ChainBody, NoMemory>
-    ensures { IfOk result (λ body. body ≡ said_of term list.now message) }
+/// The answer of a read: what its query finds in the part.
+pub fn read(found: View) -> Answer
+    ensures { (machine : Part) (query : Query) → found ≡ view query machine → result ≡ read machine query }
 {
-    match message {
-        ChainMsg::Remote(v) => Ok(ChainBody::Remote(term, v, list.copy(alloc)?)),
-        ChainMsg::Fence(v) => Ok(ChainBody::Fence(term, v, list.edges(alloc)?)),
-    }
-}
-
-/// A chain that stands is taken up, and its message leaves. Refused for want of memory alone.
-pub fn resumes(
-    alloc: Global,
-    term: u64,
-    t: &mut ChainTable,
-    rec: &PrimeRec,
-    policy: Policy,
-) -> Result<Letter, NoMemory>
-    ensures table { OnOk result (t.new.0 ≡ (sends term (resume t.old.0 rec.now policy)).table) }
-    ensures sent { IfOk result (λ letter. letter ∷ [] ≡ (sends term (resume t.old.0 rec.now policy)).letters) }
-    ensures err { OnErr result (t.new.0 ≡ t.old.0) }
-    ensures room { t.old.1 - 1 ≤ t.new.1 }
-{
-    let letter = resumption(alloc, term, t, rec, policy)?;
-    resume(alloc, t, rec, policy)?;
-    Ok(letter)
-}
-
-/// The letter that leaves when a chain that stands is taken up.
-fn resumption(
-    alloc: Global,
-    term: u64,
-    t: &ChainTable,
-    rec: &PrimeRec,
-    policy: Policy,
-) -> Result<Letter, NoMemory>
-    ensures { IfOk result (λ letter. letter ≡ resumption term rec.now policy (fin.get t.now.0 rec.now.v)) }
-{
-    let Some(chain) = t.get(rec.v) else {
-        let message = message(mode_for(rec, policy), rec.v);
-        let body = said_of(alloc, term, &rec.list, message)?;
-        return Ok(Letter::Cross(rec.remote, 0, body));
-    };
-    let message = message(chain.mode, rec.v);
-    let body = said_of(alloc, term, &chain.list, message)?;
-    Ok(Letter::Cross(chain.remote, next_try(chain.tries), body))
-}
-
-/// A chain begins, and its Remote leaves. Refused for want of memory alone.
-pub fn begins(
-    alloc: Global,
-    term: u64,
-    t: &mut ChainTable,
-    rec: &PrimeRec,
-) -> Result<Letter, NoMemory>
-    ensures table { OnOk result (t.new.0 ≡ (begins term t.old.0 (Some rec.now)).table) }
-    ensures sent { IfOk result (λ letter. letter ∷ [] ≡ (begins term t.old.0 (Some rec.now)).letters) }
-    ensures err { OnErr result (t.new.0 ≡ t.old.0) }
-    ensures room { t.old.1 - 1 ≤ t.new.1 }
-{
-    let list = rec.list.copy(alloc)?;
-    on_primed(alloc, t, rec)?;
-    Ok(Letter::Cross(rec.remote, 0, ChainBody::Remote(term, rec.v, list)))
+    Answer::Shown(found)
 }

@@ -14,10 +14,10 @@
 //! - a leader that isn't ready sends for no chain (`only_ready_leaders_send`);
 //! - no rule looks at tries or hints (`blind_to_routes`), and rules worked by hand (`worked_rules`).
 //!
-//! The code equals the definitions, clause by clause: [`ChainTable`], the rules, what [`Leader`] makes of a packet but a
-//! Resume, of a call that is given up and of a pulse, and a call's entry, part and answer. Of a Resume the code has each chain
-//! that is taken up (`resumes`), and of an item that is applied the steps (`started`, `forgets`, `ruled`); neither has a
-//! call for the whole. `specs/Table`, `specs/Rows` and `specs/Leader` say how the program keeps what the definitions speak of.
+//! The code equals the definitions, clause by clause: [`ChainTable`], the rules, what [`Leader`] makes of a packet
+//! (`taken`, and `resumed` of a Resume), of an item that it applies (`on_item`), of a call that is given up and of a pulse, and
+//! a call's entry, part and answer. Where a call takes memory it takes it before its first change. `specs/Table`, `Rows`,
+//! `Leader`, `Resuming` and `Applying` say how the program keeps what the definitions speak of.
 //!
 //! Below is `part_rules`; above is `chain_world`.
 #![tactic(auto)]
@@ -25,18 +25,24 @@
 mod answers;
 mod body;
 mod calls;
+mod item_letters;
 mod laws;
 mod leader;
 mod letter;
+mod new_chain;
+mod resuming;
 mod rules;
 mod table;
 
 pub use answers::{answer_of, back_of, call_in, chain_in, is_write, told};
 pub use body::{About, ChainBody};
 pub use calls::{entry_of, part_of_op, removal};
+pub use item_letters::ItemLetters;
 pub use laws::{blind_to_routes, names_its_chain, one_mode, only_ready_leaders_send, worked_rules};
-pub use leader::{Leader, begins, resumes};
+pub use leader::{Leader, read};
 pub use letter::Letter;
+pub use new_chain::{NewChain, beginning};
+pub use resuming::TakenUp;
 pub use rules::{
     give_up, mark, on_fence, on_primed, on_primed_with, on_remote, resume, resume_with,
 };

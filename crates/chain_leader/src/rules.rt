@@ -145,7 +145,7 @@ pub fn mark(kept: u64, v: u64) -> Option<InHalf>
 }
 
 /// A chain as its record has it, in that mode, with the record's list.
-fn added(rec: &PrimeRec, list: EdgeHalves, mode: Mode) -> ChainState
+pub(crate) fn added(rec: &PrimeRec, list: EdgeHalves, mode: Mode) -> ChainState
     requires { list ≡ rec.now.list }
     ensures { result ≡ added rec.now mode }
 {

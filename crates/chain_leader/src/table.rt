@@ -48,6 +48,7 @@ impl ChainTable {
     ghost use Rattle.maps.specs.Maps.{altered};
     ghost use Rattle.chain_leader.specs.Rules.{first_to_double};
     ghost use Rattle.chain_leader.specs.Table.{with_hint, with_asked, with_double, with_try, route_of};
+    ghost use Rattle.chain_leader.specs.Resuming.{taken_up};
 
     /// No chain.
     pub fn new(alloc: Global) -> Self
@@ -100,6 +101,20 @@ impl ChainTable {
                 Err(_) => unreachable!(),
             },
         }
+    }
+
+    /// Takes up a chain: it is added as it is given, or the one that is there has one try more.
+    pub fn take_up(&mut self, row: (u64, ChainState))
+        requires { 0 < self.old.1 }
+        ensures table { self.new.0 ≡ taken_up self.old.0 row }
+        ensures room { self.old.1 - 1 ≤ self.new.1 }
+    {
+        let (v, chain) = row;
+        let Some(_) = self.get(v) else {
+            self.add(v, chain);
+            return;
+        };
+        self.retry(v);
     }
 
     /// Forgets a chain.

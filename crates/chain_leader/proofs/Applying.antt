@@ -1,0 +1,60 @@
+-- What a leader makes of an item is what the program makes of it by the item's answer.
+use Rattle.std.proofs.Common.{◌≡◌, ℕ, Option, None, Some, Bool, true, false, refl, ap, sym, ◌∙◌, subst}
+use Rattle.std.specs.Prelude.{◌==◌}
+use Rattle.std.specs.Option.{option_map}
+use Rattle.part_keys.specs.declared.chain.PrimeRec.{PrimeRec}
+use Rattle.part_keys.specs.declared.entry.PartEntry.{PartEntry}
+use Rattle.part_keys.specs.declared.proposal.Proposal.{Proposal}
+use Rattle.part_keys.specs.declared.proposal.Proposal.TheVariants.{Made}
+use Rattle.part_rules.specs.declared.applied.Applied.{Applied}
+use Rattle.part_rules.specs.declared.applied.Applied.TheVariants.{Begun}
+use Rattle.part_rules.specs.Part.{Part}
+use Rattle.part_rules.specs.Machine.{applied}
+use Rattle.chain_leader.specs.declared.new_chain.NewChain.{NewChain}
+use Rattle.chain_leader.specs.Rules.{Table}
+use Rattle.chain_leader.specs.Leading.{Leading, answers_of, chain_in, forgetting, quiet, begins, ruled_by, ruled, on_entry, on_item}
+use Rattle.chain_leader.specs.Leader.{BeganBehind, StandsBehind}
+use Rattle.chain_leader.specs.Applying.{IsBehind, beginning_of, beginning_by, begun_with, entry_by}
+use Rattle.chain_leader.proofs.Sent.{begun_table, begun_sent}
+
+-- a chain that begins
+begins_by : (term : ℕ) (t : Table) (o : Option PrimeRec) → begins term t o ≡ begun_with true t (option_map (beginning_of term) o)
+begins_by term t None = refl
+begins_by term t (Some rec) = (λ i. record { table = sym (begun_table term t rec) i; letters = sym (begun_sent term t rec) i })
+
+unready : (t : Table) (made : Option NewChain) → quiet t ≡ begun_with false t made
+unready t None = refl
+unready t (Some made) = refl
+
+rule_by : (ready : Bool) (term : ℕ) (t : Table) (behind : Part) (said : Applied) (begun : Option PrimeRec) → BeganBehind behind said begun → ruled_by ready term t behind said ≡ begun_with ready t (beginning_by term said begun)
+rule_by true term t behind (Begun v) begun h = ap (begins term t) h ∙ begins_by term t begun
+rule_by false term t behind (Begun v) begun h = unready t (option_map (beginning_of term) begun)
+rule_by true term t behind other begun h = refl
+rule_by false term t behind other begun h = refl
+
+-- an entry, by the part behind it and its answer
+entry_is : (term : ℕ) (l : Leading) (own : Bool) (x : PartEntry) (behind : Part × Applied) (begun : Option PrimeRec) → BeganBehind behind.0 behind.1 begun → entry_by l own x behind.1 (beginning_by term behind.1 begun) behind.0 ≡ on_entry term l own x behind
+entry_is term l own x behind begun h = ap (ruled l (answers_of own x behind.1)) (sym (rule_by l.ready term (forgetting l.table behind.0 (chain_in x)) behind.0 behind.1 begun h))
+
+-- .. at a leader that is as that one, with the chain that was prepared
+pub entry_at : (term : ℕ) (l m : Leading) (own : Bool) (x : PartEntry) (behind : Part) (said : Applied) (made : Option NewChain) (begun : Option PrimeRec)
+    → m ≡ l → made ≡ beginning_by term said begun → BeganBehind behind said begun → entry_by m own x said made behind ≡ on_entry term l own x (behind, said)
+entry_at term l m own x behind said made begun same prepared h =
+    (λ i. entry_by (same i) own x said (prepared i) behind) ∙ entry_is term l own x (behind, said) begun h
+
+-- An item that is an entry: what is known behind it, and what the leader makes of it
+pub record IsEntryItem (parts term index : ℕ) (machine : Part) (l : Leading) (of : ℕ) (item : Proposal) (x : PartEntry) (said : Applied) (begun : Option PrimeRec) (stands : Bool) : Type 0 where
+  pub began : BeganBehind (applied parts index x machine).0 said begun
+  pub ends : StandsBehind (applied parts index x machine).0 (chain_in x) stands
+  pub same : on_entry term l (of == term) x ((applied parts index x machine).0, said) ≡ on_item parts term machine l index (of, item)
+  pub answers : answers_of (of == term) x said ≡ (on_item parts term machine l index (of, item)).answers
+
+pub entry_item : (parts term index : ℕ) (machine : Part) (l : Leading) (of : ℕ) (item : Proposal) (x : PartEntry) (said : Applied) (begun : Option PrimeRec) (stands : Bool)
+    → item ≡ Made x → IsBehind parts index item machine said begun stands → IsEntryItem parts term index machine l of item x said begun stands
+entry_item parts term index machine l of item x said begun stands e =
+    subst (λ (y : Proposal). IsBehind parts index y machine said begun stands → IsEntryItem parts term index machine l of y x said begun stands) (sym e) (λ h. record {
+      began = h.began;
+      ends = h.ends;
+      same = ap (λ (s : Applied). on_entry term l (of == term) x ((applied parts index x machine).0, s)) h.answer;
+      answers = ap (answers_of (of == term) x) h.answer;
+    })
