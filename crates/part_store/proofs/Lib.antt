@@ -11,3 +11,4 @@ pub mod Doubling
 pub mod OneState
 pub mod TagsRead
 pub mod Blank
+pub mod SmallClients

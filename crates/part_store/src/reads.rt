@@ -1,5 +1,5 @@
 //! What a part keeps at one key. These reads take no memory.
-ghost use Rattle.std.specs.Prelude.{◌≡◌, ◌≤◌, ◌<◌};
+ghost use Rattle.std.specs.Prelude.{◌≡◌, IfSome};
 ghost use Rattle.graph_bytes.specs.Fits.{IsSmall};
 ghost use Rattle.part_keys.specs.declared.key.Key.TheVariants as keys;
 ghost use Rattle.part_keys.specs.Keys.{FitsKey};
@@ -56,6 +56,7 @@ pub fn chain_at<S: KeyStore>(s: Setting, store: &S, e: &EdgeId) -> Option<(u64, 
     requires from { IsFrom s e.now }
     ensures is { result ≡ chain_in_store s (S.meaning store.now) e.now }
     ensures fits { FitsKey s.ids (keys.OutEdge s.part e.now) }
+    ensures small { IfSome result (λ x. IsSmall x.1.client) }
 {
     let single = prime_key(s.ids, s.parts, e);
     if let Some(value) = store.get(single.as_slice()) {

@@ -1,5 +1,6 @@
 //! Reading the values that a part keeps, as far as its decisions need them.
-ghost use Rattle.std.specs.Prelude.{◌≡◌, Some};
+ghost use Rattle.std.specs.Prelude.{◌≡◌, Some, IfSome};
+ghost use Rattle.graph_bytes.specs.Fits.{IsSmall};
 ghost use Rattle.byte_fields.specs.Reading.{Reads};
 ghost use Rattle.part_store.specs.Reads.{outcome_at, last_at, number_of_value, chain_of_value, last_of_value};
 
@@ -21,7 +22,8 @@ pub(crate) fn front_number(bytes: &[u8]) -> u64
 /// The number and the call of the chain that a value stands for.
 #[tactic(auto, unfolding(byte_fields::specs::Reading::both_at))]
 pub(crate) fn chain_in(bytes: &[u8]) -> Option<(u64, CallId)>
-    ensures { result ≡ chain_of_value (Some bytes.now) }
+    ensures is { result ≡ chain_of_value (Some bytes.now) }
+    ensures small { IfSome result (λ x. IsSmall x.1.client) }
 {
     let Ok((v, rest)) = read_u64(bytes) else {
         return None;
