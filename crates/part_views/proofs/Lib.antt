@@ -3,4 +3,3 @@ mod KeyRead
 mod Facts
 mod Prefix
 mod Seen
-mod Shown

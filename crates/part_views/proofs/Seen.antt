@@ -15,9 +15,8 @@ use Rattle.graph_model.specs.declared.query.Query.{Query}
 use Rattle.graph_model.specs.declared.query.Query.TheVariants.{Tag, Edge, Out, In, Both}
 use Rattle.graph_model.specs.declared.val.Val.{Val}
 use Rattle.graph_model.specs.declared.vid.Vid.{Vid}
-use Rattle.graph_model.proofs.KeyLemmas.{vids_total, vids_exact}
+use Rattle.graph_model.proofs.KeyLemmas.{vid_keys}
 use Rattle.kv_part.specs.Store.{Contents}
-use Rattle.maps.specs.Keys.{IsKeyOrder}
 use Rattle.maps.proofs.Found.{entries_got}
 use Rattle.maps.proofs.Keys.{same_is}
 use Rattle.part_keys.specs.declared.key.Key.TheVariants as keys
@@ -34,9 +33,6 @@ use Rattle.part_views.specs.Views.{FitsQuery, edges_prefix, out_shown, in_shown,
 use Rattle.part_views.proofs.InOrder.{read_twice, read_passing}
 use Rattle.part_views.proofs.Facts.{row_back, out_reads, outs_are, in_reads, ins_are, row_here_key, rows_are}
 use Rattle.part_views.proofs.Prefix.{edge_begins}
-
-vid_keys : IsKeyOrder vid_cmp
-vid_keys = record { total = vids_total; exact = vids_exact }
 
 -- what two readings gave, one behind the other
 gave : {A B : Type 0} (g : A → Option B) (o : Option A) (b : B) → option_and_then g o ≡ Some b → (a : A) × (o ≡ Some a) × (g a ≡ Some b)
