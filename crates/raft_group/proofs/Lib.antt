@@ -22,6 +22,8 @@ pub mod Events
 pub mod Places
 pub mod Confirmed
 pub mod Founded
+pub mod Holding
+pub mod Founding
 pub mod Safety
 pub mod Complete
 pub mod Rising

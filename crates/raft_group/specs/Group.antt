@@ -10,21 +10,17 @@ use Rattle.raft_log.specs.Majority.{is_among}
 use Rattle.raft_log.specs.Peers.{put_among, joined, but}
 use Rattle.raft_log.specs.Decided.{Leadership}
 use Rattle.raft_core.specs.declared.input.RaftInput.{RaftInput}
+use Rattle.member_change.specs.declared.change.Change.{Change as MemberChange}
 use Rattle.member_change.specs.Permit.{member_in, is_member}
 use Rattle.raft_core.specs.declared.input.RaftInput.TheVariants.{Msg, Elect as ElectInput, Pulse as PulseInput, Propose as ProposeInput, Transfer as TransferInput, Change as ChangeInput, Confirm as ConfirmInput}
 use Rattle.raft_core.specs.Core.{Core, opened, is_leading, is_ready}
 use Rattle.raft_core.specs.Step.{Stepped, stepped}
 use Rattle.raft_core.specs.Durable.{crashed}
+pub use Rattle.raft_group.specs.declared.sent.Sent.{Sent}
 use Rattle.raft_group.specs.declared.event.Spur.{Spur}
 use Rattle.raft_group.specs.declared.event.Spur.TheVariants.{Sent as SentSpur, Elect, Pulse, Propose, Transfer, Change, Confirm}
 use Rattle.raft_group.specs.declared.event.GroupEvent.{GroupEvent}
 use Rattle.raft_group.specs.declared.event.GroupEvent.TheVariants.{Step, StepCrash, Crash, Place, Wipe}
-
--- a message that was sent
-pub record Sent : Type 0 where
-  pub from : ℕ
-  pub to : ℕ
-  pub message : RaftMsg
 
 -- a round that a leader began, and what stood just before: whether the leader was ready, its commit, and how many
 -- entries were decided
@@ -156,14 +152,20 @@ abbrev pub sent_to : ℕ → Option Sent → Option RaftInput
 sent_to peer None = None
 sent_to peer (Some s) = if s.to == peer then Some (Msg s.from s.message) else None
 
+abbrev pub changed_by : MemberChange → Option RaftInput
+changed_by change = if nat_lt 0 (member_in change) then Some (ChangeInput change) else None
+
+abbrev pub input_from : List Sent → ℕ → Spur → Option RaftInput
+input_from sent peer (SentSpur k) = sent_to peer (slice_get sent k)
+input_from sent peer Elect = Some ElectInput
+input_from sent peer Pulse = Some PulseInput
+input_from sent peer (Propose bytes) = Some (ProposeInput bytes)
+input_from sent peer (Transfer to) = Some (TransferInput to)
+input_from sent peer (Change change) = changed_by change
+input_from sent peer Confirm = Some ConfirmInput
+
 abbrev pub input_of : Group → ℕ → Spur → Option RaftInput
-input_of g peer (SentSpur k) = sent_to peer (slice_get g.sent k)
-input_of g peer Elect = Some ElectInput
-input_of g peer Pulse = Some PulseInput
-input_of g peer (Propose bytes) = Some (ProposeInput bytes)
-input_of g peer (Transfer to) = Some (TransferInput to)
-input_of g peer (Change change) = if nat_lt 0 (member_in change) then Some (ChangeInput change) else None
-input_of g peer Confirm = Some ConfirmInput
+input_of g peer spur = input_from g.sent peer spur
 
 -- an event that isn't lawful changes nothing: at a peer that isn't there, or of a message that wasn't sent to it
 abbrev pub at_member : Group → ℕ → Group → Group

@@ -1,4 +1,5 @@
 pub mod Group
+pub mod Held
 pub mod Facts
 pub mod Invariant
 pub mod Rounds

@@ -12,7 +12,8 @@ use Rattle.raft_core.specs.Core.{Core, is_leading}
 use Rattle.raft_core.specs.Step.{stepped as raft_stepped}
 use Rattle.raft_group.specs.declared.event.GroupEvent.{GroupEvent}
 use Rattle.raft_group.specs.declared.event.GroupEvent.TheVariants.{Step, StepCrash, Crash}
-use Rattle.raft_group.specs.Group.{Sent, Group, core_set, sent_by, decided_after, with_step, with_stop, with_crash, took, stopped, after as group_after, run}
+use Rattle.raft_group.specs.declared.sent.Sent.{Sent}
+use Rattle.raft_group.specs.Group.{Group, core_set, sent_by, decided_after, with_step, with_stop, with_crash, took, stopped, after as group_after, run}
 use Rattle.raft_group.specs.Facts.{GroupFacts}
 use Rattle.raft_group.specs.Invariant.{IsFirst}
 use Rattle.raft_group.proofs.Runs.{runs_on}

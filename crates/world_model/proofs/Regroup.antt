@@ -3,7 +3,8 @@ use Rattle.std.proofs.Common.{◌≡◌, ◌≢◌, ◌⊎◌, inl, inr, ℕ, Li
 use Rattle.std.specs.Prelude.{◌==◌, ◌&&◌, slice_get, if◌then◌else◌}
 use Rattle.std.proofs.lemmas.Bool.{eqb-false}
 use Rattle.raft_log.specs.declared.message.RaftMsg.{RaftMsg}
-use Rattle.raft_group.specs.Group.{Sent, Group}
+use Rattle.raft_group.specs.declared.sent.Sent.{Sent}
+use Rattle.raft_group.specs.Group.{Group}
 use Rattle.part_keys.specs.declared.proposal.Proposal.{Proposal}
 use Rattle.replica_core.specs.declared.packet.Place.{Place}
 use Rattle.replica_core.specs.declared.packet.Place.TheVariants as place

@@ -6,7 +6,8 @@ use Rattle.raft_log.specs.Majority.{is_among}
 use Rattle.raft_core.specs.Core.{Core}
 use Rattle.raft_core.specs.Durable.{reopened}
 use Rattle.raft_group.specs.declared.event.GroupEvent.{GroupEvent}
-use Rattle.raft_group.specs.Group.{Sent, Group, first_members, first_core, run}
+use Rattle.raft_group.specs.declared.sent.Sent.{Sent}
+use Rattle.raft_group.specs.Group.{Group, first_members, first_core, run}
 use Rattle.raft_group.specs.Invariant.{IsFirst}
 use Rattle.part_keys.specs.declared.proposal.Proposal.{Proposal}
 use Rattle.replica_core.specs.declared.packet.Place.{Place}
