@@ -1,0 +1,5 @@
+pub mod NumberLemmas
+pub mod WordLemmas
+pub mod Turns
+pub mod Refused
+pub mod Checked
