@@ -13,3 +13,7 @@ edge_to n = record { src = Num (pos 1); etype = pos 1; rank = pos 0; dst = Num (
 -- the first with the row (90), the second removed
 abbrev pub two_edges : List (EdgeId × Half)
 two_edges = (edge_to 2, Here (Int (pos 90) ∷ [])) ∷ (edge_to 4, Absent) ∷ []
+
+-- the edge from 2 to 1 with the row (90)
+abbrev pub edge_back : List (EdgeId × Half)
+edge_back = (record { src = Num (pos 2); etype = pos 1; rank = pos 0; dst = Num (pos 1) }, Here (Int (pos 90) ∷ [])) ∷ []
