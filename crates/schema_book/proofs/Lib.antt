@@ -1,0 +1,4 @@
+pub mod EntryLemmas
+pub mod CreateLemmas
+pub mod OnceLemmas
+pub mod OverLemmas

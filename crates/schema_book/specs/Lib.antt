@@ -1,0 +1,11 @@
+pub mod Refusals
+pub mod Columns
+pub mod Entries
+pub mod Schema
+pub mod Create
+pub mod Ids
+pub mod Rows
+pub mod Puts
+pub mod Lists
+pub mod Exprs
+pub mod Bind
