@@ -63,6 +63,7 @@ pub mod Leaders
 pub mod WorkedGivenUp
 pub mod WorkedBeside
 pub mod WorkedRepeats
+pub mod WorkedClosed
 pub mod Occurring
 pub mod Asking
 pub mod Seeing

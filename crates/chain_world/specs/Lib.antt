@@ -13,5 +13,6 @@ pub mod Edges
 pub mod WorkedRun
 pub mod WorkedFence
 pub mod WorkedLate
+pub mod WorkedDouble
 pub mod WorkedSeeing
 pub mod Invariant

@@ -30,7 +30,7 @@ pub use edge_laws::{equal_when_none_stands, last_chain_gives};
 pub use event::ChainEvent;
 pub use ledger_laws::{chains_go_on, ledgers_are_seen, ledgers_refine, ledgers_stay_sound};
 pub use packet::{ChainEnd, ChainPacket};
-pub use worked_laws::{worked_fence, worked_late, worked_run, worked_seeing};
+pub use worked_laws::{worked_double, worked_fence, worked_late, worked_run, worked_seeing};
 pub use world_laws::{
     cancels_by_policy, chains_refine, decides_next, decisions_meet, replies_have_causes,
     sent_answers_have_causes, shows_given_up, worlds_are_safe, worlds_run_on,

@@ -3,6 +3,7 @@ ghost use Rattle.chain_world.specs.WorkedRun.{AreItsSteps, IsChainRun};
 ghost use Rattle.chain_world.specs.WorkedLate.{AreLateRepeats, GiveNoStep};
 ghost use Rattle.chain_world.specs.WorkedSeeing.{AreTwoLeaders, SeesNothingOld, SeesTheNew};
 ghost use Rattle.chain_world.specs.WorkedFence.{AreGivenUp, IsFenceRun};
+ghost use Rattle.chain_world.specs.WorkedDouble.{AreClosed, IsDoubleRun};
 
 /// A chain of two edges runs from its call to its answer, and its graph steps are those of a chain.
 pub fn worked_run()
@@ -15,6 +16,13 @@ pub fn worked_run()
 pub fn worked_fence()
     ensures run { IsFenceRun }
     ensures steps { AreGivenUp }
+{}
+
+/// A chain of two edges whose call is given up is doubled by its leader, and the client told so; the next leader takes it up and
+/// closes it.
+pub fn worked_double()
+    ensures run { IsDoubleRun }
+    ensures steps { AreClosed }
 {}
 
 /// Of two leaders of one part at once the earlier one, which hasn't applied all that is decided, cannot answer a read, and the
