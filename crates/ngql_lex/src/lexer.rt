@@ -13,7 +13,7 @@ use lists::Listed;
 use std::alloc::Global;
 
 /// The bytes of the line without the CR that it ends in.
-fn without_cr(line: &[u8]) -> &[u8]
+pub fn without_cr(line: &[u8]) -> &[u8]
     ensures is { result.now ≡ spec.without_cr line.now }
     ensures shorter { length result.now ≤ length line.now }
 {

@@ -22,7 +22,7 @@ mod text;
 mod token;
 
 pub use front::Front;
-pub use lexer::lex;
+pub use lexer::{lex, without_cr};
 pub use refused::LexRefused;
 pub use text::Ending;
 pub use token::{Token, TokenKind, Tokens};

@@ -1,5 +1,5 @@
 -- Kinds of tokens.
-use Rattle.std.specs.Prelude.{ℕ, List, [], ◌∷◌, ◌++◌}
+use Rattle.std.specs.Prelude.{ℕ, List, [], ◌∷◌}
 use Rattle.ngql_parser.specs.declared.kind.Kind.{Kind}
 use Rattle.ngql_parser.specs.declared.kind.Kind.TheVariants.{Ellipsis, Name, SmallInt, Int, WideInt, Text, LongText, Client, Blank, Arrow, At, Comma, Colon, Semicolon, Open, Close, Dot, Star, Tilde, Stray, Equals, Eq, Ne, Lt, Le, Gt, Ge, Create, Space, Use, Tag, Edge, If, Not, Exists, Insert, Vertex, Values, Delete, Fetch, Prop, On, Go, Step, Steps, From, Over, Reversely, Bidirect, Where, Yield, As, And, Or, Null, Default, True, False, IntWord, Int64Word, BoolWord, StringWord, FixedWord, PartsWord, FactorWord, IdsWord, BadParts, BadFactor, BadIds, SrcCall, DstCall, RankCall, TypeCall, IdCall, EdgePropsCall, VertexPropsCall, PropsCall}
 

@@ -1,22 +1,28 @@
-//! The grammar of the query language as data, and the reading of most of its statements.
+//! Statements of the query language, from the bytes of a line.
 //!
-//! `specs/Rules` has the whole grammar, rule by rule in the order of the printed one, each with the value that it makes; what such a
-//! grammar spells, and what the first misfit of a line is, stands in the crate `grammar`. That one token of lookahead tells what comes,
-//! in each of its rules, is computed (`proofs/Checked`).
+//! The contract: [`parse`] answers a line exactly where its bytes spell it (`ok`, `only`), and else says where its first misfit
+//! stands (`misfit`): the tokens before it begin some line of the grammar, and with the token at it they begin none. A number that is
+//! too wide, an option that isn't allowed, and too many of something are misfits of the limits: with the limits lifted, lines
+//! would go on so.
 //!
-//! `tokens_of` makes the tokens that the grammar is over, from those that a line has (`specs/Tokens`, with `Kinds`, `Words`, `Numbers` and
-//! `Texts`): the kind of each by its bytes and by what stands around it. Each `read_` function answers what reading by its rule gives
-//! (`specs/Gives`): CREATE, USE, INSERT, DELETE and FETCH stand so. GO with its conditions, the line around a statement and `parse` itself
-//! aren't there yet, so the crate offers its types alone.
+//! To read, and believe: `specs/Kinds`, `Words`, `Numbers`, `Texts` and `Tokens` (what each token is to the grammar, by its bytes and by
+//! what stands around it), `Rules` (the grammar, rule by rule in the order of the printed one, each with the value that it makes) and
+//! `Promise` (what is promised). What a grammar spells, and what a first misfit is, stands in the crate `grammar`. Each `read_` function
+//! answers what reading by its rule gives (`specs/Gives`); that this is what the rule spells is that crate's theorem, and the test that
+//! one token of lookahead tells what comes is computed (`proofs/Checked`).
 //!
-//! Below are the tokens of `ngql_lex` and the statements of `ngql_syntax`; above will be the schema book, which binds statements.
+//! Conditions are read by functions that call one another, a level of calls for each bracket and each NOT.
+//!
+//! Below are the tokens of `ngql_lex` and the statements of `ngql_syntax`; above is the schema book, which binds them.
 #![tactic(auto)]
 
+mod cond;
 mod create;
 mod delete;
 mod edges;
 mod exprs;
 mod fetch;
+mod go;
 mod insert;
 mod kind;
 mod leaves;
@@ -24,16 +30,21 @@ mod list;
 mod names;
 mod number;
 mod option;
+mod parse_refused;
 mod placed;
 mod refusal;
 mod seen;
+mod statement;
 mod text;
 mod token;
 mod tokens;
+mod whole;
 mod words;
 
 pub use kind::Kind;
 pub use option::{Opt, Options};
+pub use parse_refused::ParseRefused;
 pub use refusal::Refusal;
 pub use seen::Seen;
 pub use token::Token;
+pub use whole::parse;

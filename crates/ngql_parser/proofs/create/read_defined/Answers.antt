@@ -1,4 +1,4 @@
-use Rattle.std.proofs.Common.{◌≡◌, true, false, ◌∷◌, [], sym, ◌∙◌}
+use Rattle.std.proofs.Common.{◌≡◌, false, ◌∷◌, [], sym, ◌∙◌}
 use Rattle.grammar.specs.Reading.{begins_with}
 use Rattle.ngql_parser.specs.declared.kind.Kind.TheVariants as kind
 use Rattle.ngql_parser.specs.Kinds.{code}

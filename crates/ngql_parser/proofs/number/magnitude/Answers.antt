@@ -1,4 +1,4 @@
-use Rattle.std.proofs.Common.{◌≡◌, ℕ, ◌+◌, ◌-◌, ◌*◌, ◌^◌, ◌∷◌, None, drop, arith, drop-cons, get_or, add-one, ap, sym, ◌∙◌}
+use Rattle.std.proofs.Common.{◌≡◌, ◌+◌, ◌-◌, ◌*◌, ◌^◌, ◌∷◌, drop, arith, drop-cons, get_or, add-one, ap, sym, ◌∙◌}
 use Rattle.ngql_parser.specs.Numbers as spec
 use Rattle.ngql_parser.proofs.NumberLemmas.{too_large}
 use Rattle.ngql_parser.proofs.number.magnitude.Goals as goal
