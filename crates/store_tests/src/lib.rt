@@ -1,12 +1,18 @@
 //! The tests that cross crates.
 //!
 //! They stand in one crate at the top, since a crate with tests is proved twice. What a contract says needs no test: here
-//! stand keys and the part file by worked bytes, damaged ones too, the file in memory and on a real disk, and the
+//! stand keys, entries, packets and the part file by worked bytes, damaged ones too, the file in memory and on a real disk, and the
 //! tokens of a few lines. A body that always gives up for want of memory meets its contract, and is refused here alone.
 #![tactic(auto)]
 
 #[cfg(test)]
+mod entries;
+#[cfg(test)]
+mod hex;
+#[cfg(test)]
 mod keys;
+#[cfg(test)]
+mod packets;
 #[cfg(test)]
 mod part_file;
 #[cfg(test)]
