@@ -13,7 +13,6 @@ use Rattle.graph_bytes.specs.declared.id_form.IdForm.TheVariants.{Tagged}
 use Rattle.part_keys.specs.Spelling.{entry as entry_bytes}
 use Rattle.part_keys.specs.Fits as part_entry
 use Rattle.part_keys.specs.declared.entry.PartEntry.{PartEntry}
-use Rattle.part_keys.proofs.EntryFormats.{entry_format as part_entry_format}
 use Rattle.wal_frames.specs.Spelling.{entries, FitsEntry}
 use Rattle.wal_frames.proofs.Decoding.{entry_format}
 use Rattle.chain_leader.specs.declared.body.About.{About}
@@ -21,7 +20,8 @@ use Rattle.chain_leader.specs.declared.body.About.TheVariants as abouts
 use Rattle.replica_core.specs.declared.packet.Place.{Place}
 use Rattle.packet_codec.specs.Spelling.{about, behind, mark}
 use Rattle.packet_codec.specs.Fits.{may_ask, FitsAbout, FitsBehind, FitsMark, FitFew, FitsChain}
-use Rattle.packet_codec.specs.Reading.{about_at, behind_at, mark_at, few_at, few_entries_at, asked_at, request_at, chain_at}
+use Rattle.packet_codec.specs.Reading.{about_at, behind_at, mark_at, few_at, few_entries_at, request_at, chain_at}
+use Rattle.packet_codec.proofs.AskedFormats.{asked_format}
 
 -- a byte that is no kind doesn't fit
 no_about : (b : ℕ) (bytes : List ℕ) → 1 < b → about_at (b ∷ bytes) ≡ Err (misfit (b ∷ bytes))
@@ -102,11 +102,6 @@ few_entries_format =
     (λ list is. (is.0.1, record { count = is.0.0; each = is.1 }))
     (λ list is. ((is.1.count, is.0), is.1.each))
     (counted_format length (AllByRecursion FitsEntry) few_format (many_format entry_format))
-
--- the entry that is asked for
-asked_format : (from : Place) (n : ℕ) → IsFormat (asked_at from n) (entry_bytes Tagged) (λ made. part_entry.Fits Tagged made × (may_ask from n made ≡ true))
-unfolding asked_at
-asked_format from n = such_format (may_ask from n) (part_entry_format Tagged)
 
 abbrev IsAsked : Place → (ℕ × PartEntry) → Type 0
 IsAsked from x = (may_ask from x.0 x.1 ≡ true) × part_entry.Fits Tagged x.1

@@ -30,26 +30,26 @@ use Rattle.replica_core.specs.declared.packet.Packet.{Packet}
 
 -- ---- the entry of a Request
 
--- the call of this client with this number
-abbrev pub is_call : CallId → ℕ → ℕ → Bool
-is_call id client n = (id.client == client) && (id.number == n)
+-- the client that sends
+abbrev pub is_sender : Place → ℕ → Bool
+is_sender (places.Client client) id = id == client
+is_sender (places.Peer part peer) id = false
 
--- a Prime, a Vertex or a Read of that call
-abbrev pub is_asked_by : ℕ → ℕ → PartEntry → Bool
-is_asked_by client n (Prime id list absent) = is_call id client n
-is_asked_by client n (Vertex id made) = is_call id client n
-is_asked_by client n (Read id query) = is_call id client n
-is_asked_by client n (Local v) = false
-is_asked_by client n (Double v) = false
-is_asked_by client n (Close v) = false
-is_asked_by client n (Abort v) = false
-is_asked_by client n (Remote source term v list) = false
-is_asked_by client n (Fence source term v list) = false
+-- the sender's call of this number
+abbrev pub is_call : Place → ℕ → CallId → Bool
+is_call from n id = is_sender from id.client && (id.number == n)
 
--- what the sender may ask for by this number: clients ask, peers don't
+-- what the sender may ask for by this number: a Prime, a Vertex or a Read of that call; clients ask, peers don't
 abbrev pub may_ask : Place → ℕ → PartEntry → Bool
-may_ask (places.Client client) n made = is_asked_by client n made
-may_ask (places.Peer part peer) n made = false
+may_ask from n (Prime id list absent) = is_call from n id
+may_ask from n (Vertex id made) = is_call from n id
+may_ask from n (Read id query) = is_call from n id
+may_ask from n (Local v) = false
+may_ask from n (Double v) = false
+may_ask from n (Close v) = false
+may_ask from n (Abort v) = false
+may_ask from n (Remote source term v list) = false
+may_ask from n (Fence source term v list) = false
 
 -- ---- what has a spelling, by what the types of the numbers don't say
 

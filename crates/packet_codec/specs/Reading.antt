@@ -1,11 +1,12 @@
 -- Reading packets from left to right. The place of a misfit is the first byte of the first field that doesn't fit: a kind that
--- is none; a number or a flag that is cut short; a client or a part that isn't 1 to 64; the entry of a Request, as a whole, where
--- it isn't what its sender may ask for by that number; a count above 64; a field of an entry or of an item.
-use Rattle.std.specs.Prelude.{ℕ, List, Result, Ok, Err, Option, None, Some, nat_le, ◌==◌, if◌then◌else◌}
+-- is none; a number or a flag that is cut short; a client or a part that isn't 1 to 64; in the entry of a Request a kind that isn't
+-- asked for, a client that isn't the sender, a number that isn't the packet's; a count above 64; a field of an entry or of an item.
+use Rattle.std.specs.Prelude.{ℕ, List, Result, Ok, Err, Option, None, Some, nat_le, Bool, ◌==◌, ◌||◌, if◌then◌else◌}
 use Rattle.byte_fields.specs.declared.misfit.Misfit.{Misfit}
 use Rattle.byte_fields.specs.Reading.{◌>>=◌, misfit, byte_at, number_at, flag_at, many_at, both_at, made_at, such_at, counted_at}
 use Rattle.graph_bytes.specs.declared.id_form.IdForm.TheVariants.{Tagged}
 use Rattle.graph_bytes.specs.Reading.{small_at, call_at, edges_at, halves_at, view_at}
+use Rattle.part_keys.specs.EntryKinds.{prime_entry, vertex_entry, read_entry}
 use Rattle.part_keys.specs.Reading as entries
 use Rattle.part_keys.specs.declared.entry.PartEntry.{PartEntry}
 use Rattle.raft_core.specs.Appends.{most_entries}
@@ -30,7 +31,7 @@ use Rattle.packet_codec.specs.declared.kind.Kind.TheVariants.{Request, Answer as
 use Rattle.packet_codec.specs.declared.refused.PacketRefused.{PacketRefused}
 use Rattle.packet_codec.specs.declared.refused.PacketRefused.TheVariants as refusals
 use Rattle.packet_codec.specs.Kinds.{kind_of, client_end, peer_end, part_end, fine_answer, skipped_answer, pending_answer, cancelled_answer, conflict_answer, shown_answer, about_call, about_chain, from_start, behind_chain}
-use Rattle.packet_codec.specs.Fits.{may_ask}
+use Rattle.packet_codec.specs.Fits.{is_sender}
 
 -- this kind, and the bytes after it; where there is none, these bytes don't fit
 abbrev pub known_kind : Option Kind → List ℕ → List ℕ → Result (Kind × List ℕ) Misfit
@@ -97,9 +98,17 @@ few_at bytes = such_at (λ n. nat_le n most_entries) (number_at 4) bytes
 unfoldable pub few_entries_at : List ℕ → Result (List Entry × List ℕ) Misfit
 few_entries_at bytes = counted_at few_at (many_at entry_at) bytes
 
--- the entry that the sender asks for by this number
+-- the kind of an entry that is asked for
+abbrev pub is_asked_kind : ℕ → Bool
+is_asked_kind kind = (kind == prime_entry) || (kind == vertex_entry) || (kind == read_entry)
+
+-- what such an entry begins with: its kind, the client that sends it, the packet's number
+unfoldable pub asked_front_at : Place → ℕ → List ℕ → Result (((ℕ × ℕ) × ℕ) × List ℕ) Misfit
+asked_front_at from n bytes = both_at (both_at (such_at is_asked_kind byte_at) (such_at (is_sender from) (number_at 4))) (such_at (λ m. m == n) (number_at 8)) bytes
+
+-- The entry that the sender asks for by this number: what it begins with is judged first, and then the entry is read as a whole.
 unfoldable pub asked_at : Place → ℕ → List ℕ → Result (PartEntry × List ℕ) Misfit
-asked_at from n bytes = such_at (may_ask from n) (entries.entry_at Tagged) bytes
+asked_at from n bytes = asked_front_at from n bytes >>= λ front. entries.entry_at Tagged bytes
 
 -- a number and its entry
 unfoldable pub request_at : Place → List ℕ → Result ((ℕ × PartEntry) × List ℕ) Misfit

@@ -29,8 +29,8 @@ pub(crate) fn read_place(bytes: &[u8]) -> Result<(Place, &[u8]), Misfit>
 {
     match bytes {
         [CLIENT_END, rest @ ..] => {
-            let (client, rest) = read_id(rest, 0, 64)?;
-            Ok((Place::Client(client), rest))
+            let (sender, rest) = read_id(rest, 0, 64)?;
+            Ok((Place::Client(sender), rest))
         }
         [PEER_END, rest @ ..] => {
             let ((part, peer), rest) = read_part(rest)?;

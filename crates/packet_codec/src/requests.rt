@@ -1,56 +1,88 @@
 //! What clients ask, and what they are told.
-ghost use Rattle.std.specs.Prelude.{◌≡◌, ◌++◌, OnOk};
+ghost use Rattle.std.specs.Prelude.{◌≡◌, ◌==◌, ◌++◌, OnOk};
 ghost use Rattle.byte_fields.specs.Fields.{number};
-ghost use Rattle.byte_fields.specs.Reading.{Reads, Gives};
+ghost use Rattle.byte_fields.specs.Reading.{Reads, Gives, byte_at, number_at, such_at};
 ghost use Rattle.replica_core.specs.declared.packet.Place.{Place};
 ghost use Rattle.packet_codec.specs.declared.kind.Kind.TheVariants as kinds;
 ghost use Rattle.packet_codec.specs.Spelling.{about};
-ghost use Rattle.packet_codec.specs.Fits.{FitsAbout, is_call, is_asked_by, may_ask};
-ghost use Rattle.packet_codec.specs.Reading.{about_at, asked_at, request_at, body_at};
+ghost use Rattle.packet_codec.specs.Fits.{FitsAbout, is_sender};
+ghost use Rattle.packet_codec.specs.Reading.{about_at, is_asked_kind, asked_front_at, asked_at, request_at, body_at};
 
 use crate::answers::read_answer;
 use crate::ends::read_part;
-use crate::tags::{ABOUT_CALL, ABOUT_CHAIN};
-use byte_fields::{Misfit, ReadRefused, Writer, read_u64};
+use crate::tags::{ABOUT_CALL, ABOUT_CHAIN, ASKED_PRIME, ASKED_READ, ASKED_VERTEX};
+use byte_fields::{Misfit, ReadRefused, Writer, read_u32, read_u64};
 use chain_leader::{About, ChainBody};
 use graph_bytes::IdForm;
-use graph_model::CallId;
 use lists::NoMemory;
 use part_keys::{PartEntry, read_entry_front};
 use replica_core::{Body, Place};
 use std::alloc::Global;
 
-// Whether it is the call of this client with this number.
-fn is_call(id: &CallId, client: u32, number: u64) -> bool
-    ensures { result ≡ is_call id.now client number }
-{
-    id.client == client && id.number == number
-}
-
-// Whether the entry is a Prime, a Vertex or a Read of that call.
-fn is_asked_by(client: u32, number: u64, made: &PartEntry) -> bool
-    ensures { result ≡ is_asked_by client number made.now }
-{
-    match made {
-        PartEntry::Prime(id, _, _) => is_call(id, client, number),
-        PartEntry::Vertex(id, _) => is_call(id, client, number),
-        PartEntry::Read(id, _) => is_call(id, client, number),
-        _ => false,
-    }
-}
-
-// Whether the sender may ask for the entry by this number.
-fn may_ask(from: Place, number: u64, made: &PartEntry) -> bool
-    ensures { result ≡ may_ask from number made.now }
+// Whether the client is the one that sends.
+fn is_sender(from: Place, client: u32) -> bool
+    ensures { result ≡ is_sender from client }
 {
     match from {
-        Place::Client(client) => is_asked_by(client, number, made),
+        Place::Client(id) => client == id,
         Place::Peer(_, _) => false,
     }
 }
 
+// The kind of an entry that is asked for.
+#[tactic(auto, unfolding(byte_fields::specs::Reading::such_at, byte_fields::specs::Reading::byte_at))]
+fn read_asked_kind(bytes: &[u8]) -> Result<(u8, &[u8]), Misfit>
+    ensures { Reads (λ x. (x.0, x.1.now)) result (such_at is_asked_kind byte_at bytes.now) }
+{
+    match bytes {
+        [ASKED_PRIME, rest @ ..] => Ok((ASKED_PRIME, rest)),
+        [ASKED_VERTEX, rest @ ..] => Ok((ASKED_VERTEX, rest)),
+        [ASKED_READ, rest @ ..] => Ok((ASKED_READ, rest)),
+        _ => Err(Misfit::at(bytes)),
+    }
+}
+
+// The client that sends.
+#[tactic(auto, unfolding(byte_fields::specs::Reading::such_at))]
+fn read_sender(bytes: &[u8], from: Place) -> Result<(u32, &[u8]), Misfit>
+    ensures { Reads (λ x. (x.0, x.1.now)) result (such_at (is_sender from) (number_at 4) bytes.now) }
+{
+    let (client, rest) = read_u32(bytes)?;
+    if !is_sender(from, client) {
+        return Err(Misfit::at(bytes));
+    }
+    Ok((client, rest))
+}
+
+// The packet's number.
+#[tactic(auto, unfolding(byte_fields::specs::Reading::such_at))]
+fn read_same_number(bytes: &[u8], number: u64) -> Result<(u64, &[u8]), Misfit>
+    ensures { Reads (λ x. (x.0, x.1.now)) result (such_at (λ m. m == number) (number_at 8) bytes.now) }
+{
+    let (found, rest) = read_u64(bytes)?;
+    if found != number {
+        return Err(Misfit::at(bytes));
+    }
+    Ok((found, rest))
+}
+
+// What an entry that is asked for begins with: its kind, the client that sends it, the packet's number.
+#[tactic(auto, unfolding(crate::specs::Reading::asked_front_at, byte_fields::specs::Reading::both_at))]
+fn read_asked_front(
+    bytes: &[u8],
+    from: Place,
+    number: u64,
+) -> Result<(((u8, u32), u64), &[u8]), Misfit>
+    ensures { Reads (λ x. (x.0, x.1.now)) result (asked_front_at from number bytes.now) }
+{
+    let (kind, rest) = read_asked_kind(bytes)?;
+    let (client, rest) = read_sender(rest, from)?;
+    let (found, rest) = read_same_number(rest, number)?;
+    Ok((((kind, client), found), rest))
+}
+
 // The entry that the sender asks for by this number.
-#[tactic(auto, unfolding(crate::specs::Reading::asked_at, byte_fields::specs::Reading::such_at))]
+#[tactic(auto, unfolding(crate::specs::Reading::asked_at))]
 fn read_asked(
     alloc: Global,
     bytes: &[u8],
@@ -59,14 +91,8 @@ fn read_asked(
 ) -> Result<(PartEntry, &[u8]), ReadRefused>
     ensures { Gives (λ x. (x.0, x.1.now)) result (asked_at from number bytes.now) }
 {
-    let (made, rest) = match read_entry_front(alloc, bytes, IdForm::Tagged) {
-        Ok(found) => found,
-        Err(refused) => return Err(refused),
-    };
-    if !may_ask(from, number, &made) {
-        return Err(Misfit::at(bytes).into());
-    }
-    Ok((made, rest))
+    let _front = read_asked_front(bytes, from, number)?;
+    read_entry_front(alloc, bytes, IdForm::Tagged)
 }
 
 // The fields of a Request.

@@ -27,6 +27,15 @@ pub(crate) const CONFLICT_ANSWER: u8 = 5;
 /// What a query found.
 pub(crate) const SHOWN_ANSWER: u8 = 6;
 
+/// The kind of a Prime that is asked for.
+pub(crate) const ASKED_PRIME: u8 = 1;
+
+/// The kind of a Vertex that is asked for.
+pub(crate) const ASKED_VERTEX: u8 = 8;
+
+/// The kind of a Read that is asked for.
+pub(crate) const ASKED_READ: u8 = 9;
+
 /// A NotLeader is about a call.
 pub(crate) const ABOUT_CALL: u8 = 0;
 
