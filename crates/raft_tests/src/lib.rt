@@ -4,7 +4,8 @@
 //! the definition is the one meant. Each expected value comes from the rules by hand: who wins an election, who grants a
 //! vote, what an Append makes of a log, what commits and what is confirmed, which change is permitted; and what a group
 //! of three or five peers has decided behind lists of events in which leaders crash, messages come late or twice, and
-//! members come and go. They also show that the calls succeed, which no contract can.
+//! members come and go. They also show that the calls succeed, which no contract can. The rows of `permit` stand worked by
+//! hand as a law too, `member_change::worked_rows`.
 #![tactic(auto)]
 
 #[cfg(test)]
