@@ -1,7 +1,7 @@
 //! The tests that cross crates.
 //!
 //! They stand in one crate at the top, since a crate with tests is proved twice. What a contract says needs no test: here
-//! stand keys, entries, packets and the part file by worked bytes, damaged ones too, the file in memory and on a real disk, and the
+//! stand keys, entries and the part file by worked bytes, damaged ones too, the file in memory and on a real disk, and the
 //! tokens of a few lines. A body that always gives up for want of memory meets its contract, and is refused here alone.
 #![tactic(auto)]
 
@@ -11,8 +11,6 @@ mod entries;
 mod hex;
 #[cfg(test)]
 mod keys;
-#[cfg(test)]
-mod packets;
 #[cfg(test)]
 mod part_file;
 #[cfg(test)]

@@ -1,8 +1,8 @@
-//! Packets as their bytes: one of each kind, and damage at each field of four of them.
+//! Packets as their bytes: one of each kind, and damage at each field of three of them.
 use crate::hex::bytes_of;
 use chain_leader::{About, ChainBody};
 use graph_model::Answer;
-use lists::NoMemory;
+use lists::{Bytes, NoMemory};
 use packet_codec::{Kind, PacketRefused, read_packet, write_packet};
 use raft_log::RaftMsg;
 use replica_core::{Body, Packet, Place, To};
@@ -171,68 +171,125 @@ fn each_packet(rt: HostRuntime) -> Result<(), Fail> {
     Ok(())
 }
 
-/// A packet, a place in it, the byte that is put there, and the place of the field that doesn't fit then.
-const DAMAGED: [(&[u8], usize, u8, u64); 24] = [
-    (REQUEST, 0, 0, 0),
-    (REQUEST, 0, 16, 0),
-    (REQUEST, 1, 2, 1),
-    (REQUEST, 5, 0, 2),
-    (REQUEST, 5, 65, 2),
-    (REQUEST, 6, 3, 6),
-    (REQUEST, 10, 65, 7),
-    (REQUEST, 22, 8, 28),
-    (REQUEST, 23, 2, 23),
-    (REQUEST, 27, 2, 24),
-    (REQUEST, 36, 2, 36),
-    (REQUEST, 37, 0, 37),
-    (REQUEST, 68, 2, 68),
-    (NOT_LEADER, 14, 65, 11),
-    (NOT_LEADER, 15, 2, 15),
-    (NOT_LEADER, 27, 0, 24),
-    (APPEND, 62, 65, 59),
-    (APPEND, 62, 3, 90),
-    (APPEND, 74, 9, 76),
-    (APPEND, 74, 200, 75),
-    (APPEND, 75, 3, 75),
-    (APPEND, 88, 1, 89),
-    (NOW, 1, 2, 1),
-    (NOW, 10, 3, 10),
+/// A place in REQUEST, the byte that is put there, and the place of the field that doesn't fit then: the kind, who sends, to
+/// whom, the number, the entry's kind, client and number, its flag, its count, an id, a type, a half, a value's kind.
+const IN_REQUEST: [(usize, u8, u64); 19] = [
+    (0, 0, 0),
+    (0, 15, 0),
+    (1, 2, 1),
+    (5, 0, 2),
+    (5, 65, 2),
+    (5, 2, 24),
+    (6, 3, 6),
+    (10, 65, 7),
+    (22, 8, 28),
+    (23, 2, 23),
+    (27, 2, 24),
+    (35, 8, 28),
+    (36, 2, 36),
+    (37, 0, 37),
+    (38, 2, 38),
+    (50, 0, 47),
+    (59, 2, 59),
+    (68, 2, 68),
+    (71, 4, 71),
 ];
 
+/// The same in NOT_LEADER: the kind of a Done, whose fields end earlier; who sends, to whom, what it is about, the part.
+const IN_NOT_LEADER: [(usize, u8, u64); 7] = [
+    (0, 10, 31),
+    (1, 2, 1),
+    (5, 65, 2),
+    (10, 3, 10),
+    (14, 65, 11),
+    (15, 2, 15),
+    (27, 0, 24),
+];
+
+/// The same in APPEND: the count of entries, and 64 of them; an item's length, its kind, and its fields.
+const IN_APPEND: [(usize, u8, u64); 6] = [
+    (62, 65, 59),
+    (62, 64, 90),
+    (74, 9, 76),
+    (74, 200, 75),
+    (75, 3, 75),
+    (88, 1, 89),
+];
+
+/// Whether the bytes with this one in them are refused at this place.
+fn is_refused(alloc: Global, digits: &[u8], damage: (usize, u8, u64)) -> Result<bool, NoMemory> {
+    let mut bytes = Vec::from_slice(alloc, bytes_of(alloc, digits)?.as_slice())?;
+    if damage.0 < bytes.len() {
+        bytes[damage.0] = damage.1;
+    }
+    let found = read(alloc, bytes.as_slice())?;
+    Ok(found == Err(damage.2))
+}
+
 #[test]
-fn damaged_packets(rt: HostRuntime) -> Result<(), Fail> {
+fn damaged_requests(rt: HostRuntime) -> Result<(), Fail> {
     let alloc = rt.alloc();
-    for (digits, at, byte, place) in DAMAGED {
-        let mut bytes = Vec::from_slice(alloc, bytes_of(alloc, digits)?.as_slice())?;
-        if at < bytes.len() {
-            bytes[at] = byte;
-        }
-        assert!(rt; read(alloc, bytes.as_slice())? == Err(place), "byte {at}");
+    for damage in IN_REQUEST {
+        assert!(rt; is_refused(alloc, REQUEST, damage)?, "byte {}", damage.0);
     }
     Ok(())
 }
 
 #[test]
-fn cut_and_longer_packets(rt: HostRuntime) -> Result<(), Fail> {
+fn damaged_packets(rt: HostRuntime) -> Result<(), Fail> {
     let alloc = rt.alloc();
-    assert!(rt; read(alloc, &[])? == Err(0));
-    let mut bytes = Vec::from_slice(alloc, bytes_of(alloc, NOW)?.as_slice())?;
-    bytes.push(0)?;
-    assert!(rt; read(alloc, bytes.as_slice())? == Err(27));
-    bytes.truncate(26);
-    assert!(rt; read(alloc, bytes.as_slice())? == Err(19));
+    for damage in IN_NOT_LEADER {
+        assert!(rt; is_refused(alloc, NOT_LEADER, damage)?, "byte {}", damage.0);
+    }
+    for damage in IN_APPEND {
+        assert!(rt; is_refused(alloc, APPEND, damage)?, "byte {}", damage.0);
+    }
     Ok(())
 }
 
+/// Peer 1 of part 1 asks for what client 1 may ask: the client of its entry doesn't fit.
+const FROM_PEER: &[u8] = b"01 01 00000001 00000001 02 00000002 00000000 0000000000000007 \
+    09 00000001 0000000000000007 02";
+
+/// Bytes, and the place at which they are refused: none at all; a peer's request; a TimeoutNow that is cut short, and one
+/// with a byte behind it.
+const REFUSED: [(&[u8], u64); 4] = [
+    (b"", 0),
+    (FROM_PEER, 28),
+    (
+        b"08 01 00000001 00000001 01 00000001 00000002 00000000000000",
+        19,
+    ),
+    (
+        b"08 01 00000001 00000001 01 00000001 00000002 0000000000000002 00",
+        27,
+    ),
+];
+
 #[test]
-fn a_packet_is_written(rt: HostRuntime) -> Result<(), Fail> {
+fn no_packets(rt: HostRuntime) -> Result<(), Fail> {
     let alloc = rt.alloc();
+    for (digits, place) in REFUSED {
+        let bytes = bytes_of(alloc, digits)?;
+        assert!(rt; read(alloc, bytes.as_slice())? == Err(place), "at {place}");
+    }
+    Ok(())
+}
+
+/// The bytes of NOW, as they are written.
+fn written_now(alloc: Global) -> Result<Bytes, NoMemory> {
     let now = Packet {
         from: Place::Peer(1, 1),
         to: To::Peer(1, 2),
         body: Body::Raft(RaftMsg::TimeoutNow(2)),
     };
-    let written = write_packet(alloc, &now)?;
+    write_packet(alloc, &now)
+}
+
+#[test]
+fn a_packet_is_written(rt: HostRuntime) -> Result<(), Fail> {
+    let alloc = rt.alloc();
+    let written = written_now(alloc)?;
     let digits = bytes_of(alloc, NOW)?;
     assert_eq!(rt; written.as_slice(), digits.as_slice());
     Ok(())
