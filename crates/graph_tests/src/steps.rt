@@ -51,6 +51,13 @@ const RUN: &[(Line, Option<Misfit>)] = &[
     (Line::Invoke(7, Asked::Tag(9, true)), None),
     (Line::Vertex(7), None),
     (Line::Reply(7, Said::Skipped), None),
+    // Call 8 removes the vertex' tags, so call 9 puts its tag anew.
+    (Line::Invoke(8, Asked::Gone), None),
+    (Line::Vertex(8), None),
+    (Line::Reply(8, Said::Fine), None),
+    (Line::Invoke(9, Asked::Tag(9, true)), None),
+    (Line::Vertex(9), None),
+    (Line::Reply(9, Said::Fine), None),
 ];
 
 #[test]

@@ -12,7 +12,7 @@ use Rattle.ngql_syntax.specs.declared.expr.RawExpr.TheVariants as expr
 use Rattle.ngql_parser.specs.declared.kind.Kind.{Kind}
 use Rattle.ngql_parser.specs.declared.kind.Kind.TheVariants.{Ellipsis, Name, SmallInt, Int, WideInt, Text, LongText, Client, Blank, Arrow, At, Comma, Colon, Semicolon, Open, Close, Dot, Star, Tilde, Stray, Equals, Eq, Ne, Lt, Le, Gt, Ge, Create, Space, Use, Tag, Edge, If, Not, Exists, Insert, Vertex, Values, Delete, Fetch, Prop, On, Go, Step, Steps, From, Over, Reversely, Bidirect, Where, Yield, As, And, Or, Null, Default, True, False, IntWord, Int64Word, BoolWord, StringWord, FixedWord, PartsWord, FactorWord, IdsWord, BadParts, BadFactor, BadIds, SrcCall, DstCall, RankCall, TypeCall, IdCall, EdgePropsCall, VertexPropsCall, PropsCall}
 use Rattle.ngql_parser.specs.declared.token.Token.{Token}
-use Rattle.ngql_parser.specs.Rules.{Rule, ngql, reads, kind_of, int, name, vid, ine, lit, option_number, set_to, parts_opt, factor_opt, number_ids, text_ids, ids_behind, ids_kind, ids_opt, opt_of, opt_list, options, space, column_type, not_null, nullness, standard, col, columns, shape, tag, edge, defined, create, use_of, cols, vals_behind, vals, rank, ends_behind, ends, colon_vals, vertex_row, vertex_rows, put_head, put_vertices, put_vertex, edge_row, edge_rows, put_edges, put_edge, put, insert, vids, ends_list, del_edge, del_vertex, del, delete, call_word, of_kind, edge_call, vertex_call, behind_dot, of_dot, edge_property, vertex_property, owner, named, edge_expr, vertex_expr, alias, edge_shown, vertex_shown, edge_yield, vertex_yield, other_ids, other_ends, behind_id, behind_ends, behind_first, fetch_on, fetch, rel_of, test_step, test, and_of, cond, in_brackets, not_of, step_count, step_word, some_steps, steps, from, all_types, types, over_what, over, ways, condition, go_start, go_path, go_end, go_words, go, stmt, client_number, client_mark, client, mark, whole, line}
+use Rattle.ngql_parser.specs.Rules.{Rule, ngql, reads, kind_of, int, name, vid, ine, lit, option_number, set_to, parts_opt, factor_opt, number_ids, text_ids, ids_behind, ids_kind, ids_opt, opt_of, opt_list, options, space, column_type, not_null, nullness, standard, col, columns, shape, tag, edge, defined, create, use_of, cols, vals_behind, vals, rank, ends_behind, ends, colon_vals, vertex_row, vertex_rows, put_head, put_vertices, put_vertex, edge_row, edge_rows, put_edges, put_edge, put, insert, vids, ends_list, del_edge, del_vertex, del, delete, call_word, of_kind, edge_call, vertex_call, behind_dot, of_dot, edge_property, vertex_property, owner, named, edge_expr, vertex_expr, alias, edge_shown, vertex_shown, edge_yield, vertex_yield, other_ids, other_ends, behind_id, behind_ends, behind_first, fetch_on, fetch, rel_of, test_step, comparison, and_of, cond, in_brackets, not_of, step_count, step_word, some_steps, steps, from, all_types, types, over_what, over, ways, condition, go_start, go_path, go_end, go_words, go, stmt, client_number, client_mark, client, mark, whole, line}
 
 abbrev pub kinds : List Kind
 kinds = Ellipsis ∷ Name ∷ SmallInt ∷ Int ∷ WideInt ∷ Text ∷ LongText ∷ Client ∷ Blank ∷ Arrow ∷ At ∷ Comma ∷ Colon ∷ Semicolon ∷ Open ∷ Close ∷ Dot ∷ Star ∷ Tilde ∷ Stray ∷ Equals ∷ Eq ∷ Ne ∷ Lt ∷ Le ∷ Gt ∷ Ge ∷ Create ∷ Space ∷ Use ∷ Tag ∷ Edge ∷ If ∷ Not ∷ Exists ∷ Insert ∷ Vertex ∷ Values ∷ Delete ∷ Fetch ∷ Prop ∷ On ∷ Go ∷ Step ∷ Steps ∷ From ∷ Over ∷ Reversely ∷ Bidirect ∷ Where ∷ Yield ∷ As ∷ And ∷ Or ∷ Null ∷ Default ∷ True ∷ False ∷ IntWord ∷ Int64Word ∷ BoolWord ∷ StringWord ∷ FixedWord ∷ PartsWord ∷ FactorWord ∷ IdsWord ∷ BadParts ∷ BadFactor ∷ BadIds ∷ SrcCall ∷ DstCall ∷ RankCall ∷ TypeCall ∷ IdCall ∷ EdgePropsCall ∷ VertexPropsCall ∷ PropsCall ∷ []
@@ -23,12 +23,12 @@ example k = record { kind = get_or kinds k Ellipsis; number = pos 0; text = []; 
 
 -- src(edge) == NULL
 pub base : (lifted : Bool) → Base ngql lifted
-unfolding not_of in_brackets cond and_of test edge_expr edge_call call_word of_kind edge_property of_dot behind_dot named owner name rel_of lit
+unfolding not_of in_brackets cond and_of comparison edge_expr edge_call call_word of_kind edge_property of_dot behind_dot named owner name rel_of lit
 base true = base_by ngql true 9 (example 69 ∷ example 14 ∷ example 31 ∷ example 15 ∷ example 21 ∷ example 54 ∷ []) (step.Test expr.Src rel.Eq (record { val = val.Null; at = 0 }) ∷ []) refl
 base false = base_by ngql false 9 (example 69 ∷ example 14 ∷ example 31 ∷ example 15 ∷ example 21 ∷ example 54 ∷ []) (step.Test expr.Src rel.Eq (record { val = val.Null; at = 0 }) ∷ []) refl
 
 abbrev pub checked : IsChecked ngql
-unfolding not_of in_brackets cond and_of test edge_expr edge_call call_word of_kind edge_property of_dot behind_dot named owner name rel_of lit
+unfolding not_of in_brackets cond and_of comparison edge_expr edge_call call_word of_kind edge_property of_dot behind_dot named owner name rel_of lit
 checked = record {
   example = example;
   dots = refl;
@@ -42,7 +42,7 @@ checked = record {
 }
 
 pub readable : IsReadable ngql checked line
-unfolding int name vid ine lit option_number set_to parts_opt factor_opt number_ids text_ids ids_behind ids_kind ids_opt opt_of opt_list options space column_type not_null nullness standard col columns shape tag edge defined create use_of cols vals_behind vals rank ends_behind ends colon_vals vertex_row vertex_rows put_head put_vertices put_vertex edge_row edge_rows put_edges put_edge put insert vids ends_list del_edge del_vertex del delete call_word of_kind edge_call vertex_call behind_dot of_dot edge_property vertex_property owner named edge_expr vertex_expr alias edge_shown vertex_shown edge_yield vertex_yield other_ids other_ends behind_id behind_ends behind_first fetch_on fetch rel_of test_step test and_of cond in_brackets not_of step_count step_word some_steps steps from all_types types over_what over ways condition go_start go_path go_end go_words go stmt client_number client_mark client mark whole line
+unfolding int name vid ine lit option_number set_to parts_opt factor_opt number_ids text_ids ids_behind ids_kind ids_opt opt_of opt_list options space column_type not_null nullness standard col columns shape tag edge defined create use_of cols vals_behind vals rank ends_behind ends colon_vals vertex_row vertex_rows put_head put_vertices put_vertex edge_row edge_rows put_edges put_edge put insert vids ends_list del_edge del_vertex del delete call_word of_kind edge_call vertex_call behind_dot of_dot edge_property vertex_property owner named edge_expr vertex_expr alias edge_shown vertex_shown edge_yield vertex_yield other_ids other_ends behind_id behind_ends behind_first fetch_on fetch rel_of test_step comparison and_of cond in_brackets not_of step_count step_word some_steps steps from all_types types over_what over ways condition go_start go_path go_end go_words go stmt client_number client_mark client mark whole line
 readable = record { fine = refl; samples = refl }
 
 -- what is left behind a rule is no longer than what it read from

@@ -419,8 +419,8 @@ rel_of = token (code kind.Eq ∷ code kind.Ne ∷ code kind.Lt ∷ code kind.Le 
 unfoldable pub test_step : Rule RawStep
 test_step = both (λ e p. step.Test e p.0 p.1) edge_expr (rel_of & lit)
 
-unfoldable pub test : Rule (List RawStep)
-test = both (λ e p. step.Test e p.0 p.1 ∷ []) edge_expr (rel_of & lit)
+unfoldable pub comparison : Rule (List RawStep)
+comparison = both (λ e p. step.Test e p.0 p.1 ∷ []) edge_expr (rel_of & lit)
 
 -- what stands between ANDs or ORs, joined from the left
 abbrev pub joined : RawStep → List (List RawStep) → List RawStep
@@ -441,7 +441,7 @@ in_brackets = word kind.Open >> cond << word kind.Close
 
 -- not = "NOT" not | "(" cond ")" | test
 unfoldable pub not_of : Rule (List RawStep)
-not_of = either (both (λ at s. s ++ step.Not ∷ []) (word kind.Not) (again (λ s. s))) (either in_brackets test)
+not_of = either (both (λ at s. s ++ step.Not ∷ []) (word kind.Not) (again (λ s. s))) (either in_brackets comparison)
 
 -- The language: what leads back to itself is `not`.
 abbrev pub ngql : Language Token (List RawStep)

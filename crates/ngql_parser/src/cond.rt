@@ -33,9 +33,9 @@ fn read_rel(d: usize, tokens: &[Token]) -> Result<(Rel, &[Token]), Refusal>
 }
 
 /// A comparison.
-#[tactic(auto, unfolding(crate::specs::Rules::test))]
+#[tactic(auto, unfolding(crate::specs::Rules::comparison))]
 fn read_test(alloc: Global, d: usize, tokens: &[Token]) -> Result<(RawCond, &[Token]), Refusal>
-    ensures { Gives result (rule.reads d rule.test tokens.now) }
+    ensures { Gives result (rule.reads d rule.comparison tokens.now) }
 {
     let (expr, rest) = read_edge_expr(alloc, d, tokens)?;
     let (rel, rest) = read_rel(d, rest)?;

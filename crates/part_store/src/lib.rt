@@ -6,11 +6,12 @@
 //! exactly one fact of the state, and each fact has its pair. Each edge of a chain has its own key.
 //!
 //! The contract has three parts. What is read at a key, without memory ([`has_tag`], [`has_out`], [`number_at`],
-//! [`chain_at`], [`guard_at`], [`last_at`], and with memory [`tags_at`]), is what the state has ([`reads_are_the_state`]).
+//! [`chain_at`], [`guard_at`], [`last_at`]), is what the state has; with memory [`tags_at`] reads tags of a vertex, among them
+//! each one that the state has ([`reads_are_the_state`]).
 //! What is pushed onto a batch for a change ([`push_outs`], [`push_ins`], [`push_chains`], [`push_no_chains`],
 //! [`push_tag`], [`push_no_tags`], [`push_guard`], [`push_client`]) makes the store keep the changed state
-//! ([`writes_keep_up`]). A store keeps one state alone, and the empty store keeps the one before the first entry
-//! ([`one_state_kept`]).
+//! ([`writes_keep_up`]). Given its chains, a store keeps one state alone, and the empty store keeps the one before the first
+//! entry ([`one_state_kept`]).
 //!
 //! Reading order: `setting.rt`, `specs/Values`, `specs/Facts`, `specs/Keeps`, then `reads.rt` with `specs/Reads`,
 //! `writes.rt` and `list_writes.rt` with `specs/Writes`, `specs/Laws`. All of `proofs/` is the proof's alone.

@@ -10,7 +10,7 @@
 //! To believe: `specs/Terms`, and the clauses of `src/guard`. Read first `specs/Terms`. Contracts see a guard as a finite
 //! map from parts to terms; `proofs/` ties the tree map to it.
 //!
-//! Below are `lists` and `maps`; above is the machine of a part.
+//! Below are `lists` and `maps`. Nothing stands on it yet: a part's machine keeps its guards among the pairs of its store.
 #![tactic(auto)]
 
 mod guard;
