@@ -7,7 +7,7 @@
 //! confirms. It gives the new state, at most one record, the messages, and the entries that are newly committed.
 //!
 //! The laws hold for every state and input; those that need it ask `IsPeer`, which each state has from its opening on.
-//! Below are `raft_log` and `member_change`; above it is `raft_group`.
+//! Below are `raft_log` and `member_change`; above it are `raft_group` and `replica_core`.
 #![tactic(auto)]
 
 mod ahead;
