@@ -1,4 +1,4 @@
-//! Tests of a part's store and of its machine, over the bytes that the formats give by hand.
+//! Tests of a part's store, over the bytes that the formats give by hand.
 //!
 //! `stored.rt` has the pairs of a store behind two edges, while a chain stands on them and once it has ended.
 //!
