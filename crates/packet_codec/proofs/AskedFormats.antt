@@ -20,7 +20,7 @@ use Rattle.part_keys.specs.declared.entry.PartEntry.{PartEntry}
 use Rattle.part_keys.specs.declared.entry.PartEntry.TheVariants.{Prime, Local, Double, Close, Abort, Remote, Fence, Vertex, Read}
 use Rattle.part_keys.specs.Reading.{entry_at}
 use Rattle.part_keys.proofs.EntryFormats.{entry_format}
-use Rattle.replica_core.specs.declared.packet.Place.{Place}
+use Rattle.replica_model.specs.declared.packet.Place.{Place}
 use Rattle.packet_codec.specs.Fits.{is_sender, is_call, may_ask}
 use Rattle.packet_codec.specs.Reading.{is_asked_kind, asked_front_at, asked_at}
 

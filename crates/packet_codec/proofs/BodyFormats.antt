@@ -10,9 +10,9 @@ use Rattle.graph_bytes.specs.declared.id_form.IdForm.TheVariants.{Tagged}
 use Rattle.graph_bytes.proofs.ListFormats.{edges_format, halves_format}
 use Rattle.chain_leader.specs.declared.body.ChainBody.TheVariants as says
 use Rattle.raft_log.specs.declared.message.RaftMsg.TheVariants as messages
-use Rattle.replica_core.specs.declared.packet.Place.{Place}
-use Rattle.replica_core.specs.declared.packet.Body.{Body}
-use Rattle.replica_core.specs.declared.packet.Body.TheVariants.{Raft, Chain}
+use Rattle.replica_model.specs.declared.packet.Place.{Place}
+use Rattle.replica_model.specs.declared.packet.Body.{Body}
+use Rattle.replica_model.specs.declared.packet.Body.TheVariants.{Raft, Chain}
 use Rattle.packet_codec.specs.declared.kind.Kind.{Kind}
 use Rattle.packet_codec.specs.declared.kind.Kind.TheVariants.{Request, Answer as Answered, NotLeader, Append, Appended, Vote, Voted, TimeoutNow, Remote, Done, Stale, Fence, Fenced, Resume}
 use Rattle.packet_codec.specs.Kinds.{body_kind}

@@ -8,10 +8,10 @@ use Rattle.byte_fields.specs.Fields.{number}
 use Rattle.byte_fields.proofs.Numbers.{wide4}
 use Rattle.byte_fields.proofs.Formats.{IsFormat, number_format, both_format, made_again, made_within, kind_takes}
 use Rattle.graph_bytes.proofs.EdgeFormats.{small_format}
-use Rattle.replica_core.specs.declared.packet.Place.{Place}
-use Rattle.replica_core.specs.declared.packet.Place.TheVariants as places
-use Rattle.replica_core.specs.declared.packet.To.{To}
-use Rattle.replica_core.specs.declared.packet.To.TheVariants as ends
+use Rattle.replica_model.specs.declared.packet.Place.{Place}
+use Rattle.replica_model.specs.declared.packet.Place.TheVariants as places
+use Rattle.replica_model.specs.declared.packet.To.{To}
+use Rattle.replica_model.specs.declared.packet.To.TheVariants as ends
 use Rattle.packet_codec.specs.Spelling.{place, end}
 use Rattle.packet_codec.specs.Fits.{FitsAt, FitsPlace, FitsEnd}
 use Rattle.packet_codec.specs.Reading.{part_at, place_at, end_at}

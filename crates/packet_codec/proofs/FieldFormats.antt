@@ -17,7 +17,7 @@ use Rattle.wal_frames.specs.Spelling.{entries, FitsEntry}
 use Rattle.wal_frames.proofs.Decoding.{entry_format}
 use Rattle.chain_leader.specs.declared.body.About.{About}
 use Rattle.chain_leader.specs.declared.body.About.TheVariants as abouts
-use Rattle.replica_core.specs.declared.packet.Place.{Place}
+use Rattle.replica_model.specs.declared.packet.Place.{Place}
 use Rattle.packet_codec.specs.Spelling.{about, behind, mark}
 use Rattle.packet_codec.specs.Fits.{may_ask, FitsAbout, FitsBehind, FitsMark, FitFew, FitsChain}
 use Rattle.packet_codec.specs.Reading.{about_at, behind_at, mark_at, few_at, few_entries_at, request_at, chain_at}

@@ -2,9 +2,9 @@
 use Rattle.std.proofs.Common.{◌≡◌, [], ◌∷◌, ◌++◌, refl, sym, ap, subst}
 use Rattle.byte_fields.specs.Reading.{made_at}
 use Rattle.byte_fields.proofs.Formats.{IsFormat, both_format, counted_format, made_format, renamed_format}
-use Rattle.replica_core.specs.declared.packet.Place.{Place}
-use Rattle.replica_core.specs.declared.packet.To.{To}
-use Rattle.replica_core.specs.declared.packet.Packet.{Packet}
+use Rattle.replica_model.specs.declared.packet.Place.{Place}
+use Rattle.replica_model.specs.declared.packet.To.{To}
+use Rattle.replica_model.specs.declared.packet.Packet.{Packet}
 use Rattle.packet_codec.specs.declared.kind.Kind.{Kind}
 use Rattle.packet_codec.specs.Kinds.{number_of, body_kind}
 use Rattle.packet_codec.specs.Spelling.{place, end, body, packet}

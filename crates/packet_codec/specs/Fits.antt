@@ -20,13 +20,13 @@ use Rattle.raft_log.specs.declared.entry.Entry.{Entry}
 use Rattle.raft_log.specs.declared.mark.Mark.{Mark}
 use Rattle.raft_log.specs.declared.message.RaftMsg.{RaftMsg}
 use Rattle.raft_log.specs.declared.message.RaftMsg.TheVariants as messages
-use Rattle.replica_core.specs.declared.packet.Place.{Place}
-use Rattle.replica_core.specs.declared.packet.Place.TheVariants as places
-use Rattle.replica_core.specs.declared.packet.To.{To}
-use Rattle.replica_core.specs.declared.packet.To.TheVariants as ends
-use Rattle.replica_core.specs.declared.packet.Body.{Body}
-use Rattle.replica_core.specs.declared.packet.Body.TheVariants as bodies
-use Rattle.replica_core.specs.declared.packet.Packet.{Packet}
+use Rattle.replica_model.specs.declared.packet.Place.{Place}
+use Rattle.replica_model.specs.declared.packet.Place.TheVariants as places
+use Rattle.replica_model.specs.declared.packet.To.{To}
+use Rattle.replica_model.specs.declared.packet.To.TheVariants as ends
+use Rattle.replica_model.specs.declared.packet.Body.{Body}
+use Rattle.replica_model.specs.declared.packet.Body.TheVariants as bodies
+use Rattle.replica_model.specs.declared.packet.Packet.{Packet}
 
 -- ---- the entry of a Request
 

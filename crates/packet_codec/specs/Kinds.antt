@@ -5,8 +5,8 @@ use Rattle.chain_leader.specs.declared.body.ChainBody.{ChainBody}
 use Rattle.chain_leader.specs.declared.body.ChainBody.TheVariants as says
 use Rattle.raft_log.specs.declared.message.RaftMsg.{RaftMsg}
 use Rattle.raft_log.specs.declared.message.RaftMsg.TheVariants as messages
-use Rattle.replica_core.specs.declared.packet.Body.{Body}
-use Rattle.replica_core.specs.declared.packet.Body.TheVariants as bodies
+use Rattle.replica_model.specs.declared.packet.Body.{Body}
+use Rattle.replica_model.specs.declared.packet.Body.TheVariants as bodies
 use Rattle.packet_codec.specs.declared.kind.Kind.{Kind}
 use Rattle.packet_codec.specs.declared.kind.Kind.TheVariants.{Request, Answer, NotLeader, Append, Appended, Vote, Voted, TimeoutNow, Remote, Done, Stale, Fence, Fenced, Resume}
 

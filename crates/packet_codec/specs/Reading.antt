@@ -19,13 +19,13 @@ use Rattle.chain_leader.specs.declared.body.ChainBody.TheVariants as says
 use Rattle.raft_log.specs.declared.entry.Entry.{Entry}
 use Rattle.raft_log.specs.declared.mark.Mark.{Mark}
 use Rattle.raft_log.specs.declared.message.RaftMsg.TheVariants as messages
-use Rattle.replica_core.specs.declared.packet.Place.{Place}
-use Rattle.replica_core.specs.declared.packet.Place.TheVariants as places
-use Rattle.replica_core.specs.declared.packet.To.{To}
-use Rattle.replica_core.specs.declared.packet.To.TheVariants as ends
-use Rattle.replica_core.specs.declared.packet.Body.{Body}
-use Rattle.replica_core.specs.declared.packet.Body.TheVariants.{Raft, Chain}
-use Rattle.replica_core.specs.declared.packet.Packet.{Packet}
+use Rattle.replica_model.specs.declared.packet.Place.{Place}
+use Rattle.replica_model.specs.declared.packet.Place.TheVariants as places
+use Rattle.replica_model.specs.declared.packet.To.{To}
+use Rattle.replica_model.specs.declared.packet.To.TheVariants as ends
+use Rattle.replica_model.specs.declared.packet.Body.{Body}
+use Rattle.replica_model.specs.declared.packet.Body.TheVariants.{Raft, Chain}
+use Rattle.replica_model.specs.declared.packet.Packet.{Packet}
 use Rattle.packet_codec.specs.declared.kind.Kind.{Kind}
 use Rattle.packet_codec.specs.declared.kind.Kind.TheVariants.{Request, Answer as Answered, NotLeader, Append, Appended, Vote, Voted, TimeoutNow, Remote, Done, Stale, Fence, Fenced, Resume}
 use Rattle.packet_codec.specs.declared.refused.PacketRefused.{PacketRefused}

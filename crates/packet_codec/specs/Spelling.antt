@@ -14,13 +14,13 @@ use Rattle.chain_leader.specs.declared.body.ChainBody.TheVariants as says
 use Rattle.raft_log.specs.declared.mark.Mark.{Mark}
 use Rattle.raft_log.specs.declared.message.RaftMsg.{RaftMsg}
 use Rattle.raft_log.specs.declared.message.RaftMsg.TheVariants as messages
-use Rattle.replica_core.specs.declared.packet.Place.{Place}
-use Rattle.replica_core.specs.declared.packet.Place.TheVariants as places
-use Rattle.replica_core.specs.declared.packet.To.{To}
-use Rattle.replica_core.specs.declared.packet.To.TheVariants as ends
-use Rattle.replica_core.specs.declared.packet.Body.{Body}
-use Rattle.replica_core.specs.declared.packet.Body.TheVariants as bodies
-use Rattle.replica_core.specs.declared.packet.Packet.{Packet}
+use Rattle.replica_model.specs.declared.packet.Place.{Place}
+use Rattle.replica_model.specs.declared.packet.Place.TheVariants as places
+use Rattle.replica_model.specs.declared.packet.To.{To}
+use Rattle.replica_model.specs.declared.packet.To.TheVariants as ends
+use Rattle.replica_model.specs.declared.packet.Body.{Body}
+use Rattle.replica_model.specs.declared.packet.Body.TheVariants as bodies
+use Rattle.replica_model.specs.declared.packet.Packet.{Packet}
 use Rattle.packet_codec.specs.Kinds.{number_of, body_kind, client_end, peer_end, part_end, fine_answer, skipped_answer, pending_answer, cancelled_answer, conflict_answer, shown_answer, about_call, about_chain, from_start, behind_chain}
 
 -- who sends

@@ -3,7 +3,7 @@ ghost use Rattle.std.specs.Prelude.{◌≡◌, ◌++◌, OnOk};
 ghost use Rattle.std.specs.Option.{option_map};
 ghost use Rattle.byte_fields.specs.Fields.{number};
 ghost use Rattle.byte_fields.specs.Reading.{Reads, Gives};
-ghost use Rattle.replica_core.specs.declared.packet.Place.{Place};
+ghost use Rattle.replica_model.specs.declared.packet.Place.{Place};
 ghost use Rattle.packet_codec.specs.declared.kind.Kind.TheVariants as kinds;
 ghost use Rattle.packet_codec.specs.Spelling.{behind, said};
 ghost use Rattle.packet_codec.specs.Fits.{HasSpellingSaid, FitsChain, FitsBehind, FitsSaid};
@@ -18,7 +18,7 @@ use chain_leader::ChainBody;
 use graph_bytes::{IdForm, put_edges, put_halves, read_edges, read_halves};
 use lists::NoMemory;
 use part_keys::put_entry;
-use replica_core::{Body, Place};
+use replica_model::{Body, Place};
 use std::alloc::Global;
 
 // A term, and a chain.

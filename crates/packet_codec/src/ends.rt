@@ -10,7 +10,7 @@ ghost use Rattle.packet_codec.specs.Reading.{part_at, place_at, end_at};
 use crate::tags::{CLIENT_END, PART_END, PEER_END};
 use byte_fields::{Misfit, Writer, read_id, read_u32};
 use lists::NoMemory;
-use replica_core::{Place, To};
+use replica_model::{Place, To};
 
 // A part, and a number of 4 bytes.
 #[tactic(auto, unfolding(crate::specs::Reading::part_at, byte_fields::specs::Reading::both_at))]

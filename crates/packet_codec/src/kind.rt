@@ -4,7 +4,7 @@ ghost use Rattle.packet_codec.specs.Kinds.{kind_of, message_kind, said_kind, bod
 
 use chain_leader::ChainBody;
 use raft_log::RaftMsg;
-use replica_core::Body;
+use replica_model::Body;
 
 /// What a packet says, as its first byte tells.
 #[derive(Clone, Copy)]

@@ -9,7 +9,7 @@
 //! reads the log knows what they mean. What has a spelling says `specs/Fits`.
 //!
 //! Read `specs/Kinds` first, then `specs/Spelling`, `specs/Fits` and `specs/Reading`. Below are the bytes of `graph_bytes`,
-//! of the entries of `part_keys` and of the records of `wal_frames`, and the packets of `replica_core`; above is the journal
+//! of the entries of `part_keys` and of the records of `wal_frames`, and the packets of `replica_model`; above is the journal
 //! of the replicated world.
 #![tactic(auto)]
 

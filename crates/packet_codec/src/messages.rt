@@ -1,7 +1,7 @@
 //! Messages of a part's group.
 ghost use Rattle.std.specs.Prelude.{◌≡◌, ◌++◌, OnOk};
 ghost use Rattle.byte_fields.specs.Reading.{Reads, Gives};
-ghost use Rattle.replica_core.specs.declared.packet.Place.{Place};
+ghost use Rattle.replica_model.specs.declared.packet.Place.{Place};
 ghost use Rattle.packet_codec.specs.declared.kind.Kind.TheVariants as kinds;
 ghost use Rattle.packet_codec.specs.Spelling.{mark, message};
 ghost use Rattle.packet_codec.specs.Fits.{HasSpellingMessage, FitsMark, FitsMessage};
@@ -10,7 +10,7 @@ ghost use Rattle.packet_codec.specs.Reading.{mark_at, few_at, few_entries_at, bo
 use byte_fields::{Misfit, ReadRefused, Writer, read_flag, read_u32, read_u64};
 use lists::NoMemory;
 use raft_log::{Entries, Mark, RaftMsg};
-use replica_core::Body;
+use replica_model::Body;
 use std::alloc::Global;
 use wal_frames::{put_entries, read_counted};
 

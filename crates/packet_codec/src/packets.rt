@@ -1,6 +1,6 @@
 //! Writing packets.
 ghost use Rattle.std.specs.Prelude.{◌≡◌, ◌++◌, List, ℕ, IfOk, OnOk};
-ghost use Rattle.replica_core.specs.declared.packet.Packet.{Packet};
+ghost use Rattle.replica_model.specs.declared.packet.Packet.{Packet};
 ghost use Rattle.packet_codec.specs.Spelling.{body, packet};
 ghost use Rattle.packet_codec.specs.Fits.{HasSpellingBody, HasSpelling, FitsBody, Fits};
 
@@ -10,7 +10,7 @@ use crate::kind::Kind;
 use crate::messages::put_message;
 use byte_fields::Writer;
 use lists::{Bytes, NoMemory};
-use replica_core::{Body, Packet, Place};
+use replica_model::{Body, Packet, Place};
 use std::alloc::Global;
 
 fn put_body(out: &mut Writer, made: &Body, from: Place) -> Result<(), NoMemory>

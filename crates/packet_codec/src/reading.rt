@@ -1,7 +1,7 @@
 //! Reading packets.
 ghost use Rattle.std.specs.Prelude.{◌≡◌, length, IfOk};
 ghost use Rattle.byte_fields.specs.Reading.{Reads, Gives, whole, ReadsAll, Answers};
-ghost use Rattle.replica_core.specs.declared.packet.Packet.{Packet};
+ghost use Rattle.replica_model.specs.declared.packet.Packet.{Packet};
 ghost use Rattle.packet_codec.specs.Spelling.{packet};
 ghost use Rattle.packet_codec.specs.Fits.{Fits};
 ghost use Rattle.packet_codec.specs.Reading.{kind_at, head_at, body_at, packet_at, place};
@@ -13,7 +13,7 @@ use crate::messages::{read_append, read_appended, read_timeout_now, read_vote, r
 use crate::refused::PacketRefused;
 use crate::requests::{read_answered, read_not_leader, read_request};
 use byte_fields::{Misfit, ReadRefused, read_byte};
-use replica_core::{Body, Packet, Place, To};
+use replica_model::{Body, Packet, Place, To};
 use std::alloc::Global;
 
 #[tactic(auto, unfolding(crate::specs::Reading::kind_at))]

@@ -2,7 +2,7 @@
 ghost use Rattle.std.specs.Prelude.{◌≡◌, ◌==◌, ◌++◌, OnOk};
 ghost use Rattle.byte_fields.specs.Fields.{number};
 ghost use Rattle.byte_fields.specs.Reading.{Reads, Gives, byte_at, number_at, such_at};
-ghost use Rattle.replica_core.specs.declared.packet.Place.{Place};
+ghost use Rattle.replica_model.specs.declared.packet.Place.{Place};
 ghost use Rattle.packet_codec.specs.declared.kind.Kind.TheVariants as kinds;
 ghost use Rattle.packet_codec.specs.Spelling.{about};
 ghost use Rattle.packet_codec.specs.Fits.{FitsAbout, is_sender};
@@ -16,7 +16,7 @@ use chain_leader::{About, ChainBody};
 use graph_bytes::IdForm;
 use lists::NoMemory;
 use part_keys::{PartEntry, read_entry_front};
-use replica_core::{Body, Place};
+use replica_model::{Body, Place};
 use std::alloc::Global;
 
 // Whether the client is the one that sends.

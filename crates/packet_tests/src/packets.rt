@@ -5,7 +5,7 @@ use graph_model::Answer;
 use lists::{Bytes, NoMemory};
 use packet_codec::{Kind, PacketRefused, read_packet, write_packet};
 use raft_log::RaftMsg;
-use replica_core::{Body, Packet, Place, To};
+use replica_model::{Body, Packet, Place, To};
 use std::alloc::Global;
 use std::test::Fail;
 

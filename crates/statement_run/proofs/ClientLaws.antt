@@ -10,8 +10,8 @@ use Rattle.graph_model.specs.declared.call_id.CallId.{CallId}
 use Rattle.chain_leader.specs.declared.body.About.TheVariants as about
 use Rattle.chain_leader.specs.declared.body.ChainBody.{ChainBody}
 use Rattle.chain_leader.specs.declared.body.ChainBody.TheVariants as says
-use Rattle.replica_core.specs.declared.packet.Body.{Body}
-use Rattle.replica_core.specs.declared.packet.Body.TheVariants as body
+use Rattle.replica_model.specs.declared.packet.Body.{Body}
+use Rattle.replica_model.specs.declared.packet.Body.TheVariants as body
 use Rattle.statement_run.specs.Statement.{is_last}
 use Rattle.statement_run.specs.Caller.{Open, Due, Caller, answers as fits_call, fits, is_shown, is_read, counted, rounded_from, hears_by, hears_of}
 use Rattle.statement_run.specs.Laws.{StopsBehind, FirstCounts, IsAnswer, AnswersOpen, HearsAnswer, UsesHint, CountsOn}

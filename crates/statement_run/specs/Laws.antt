@@ -3,9 +3,9 @@ use Rattle.std.specs.Prelude.{◌≡◌, ℕ, suc, ◌<◌, ◌≤◌, List, [],
 use Rattle.std.specs.Option.{is_some}
 use Rattle.graph_model.specs.declared.answer.Answer.{Answer}
 use Rattle.chain_leader.specs.declared.body.ChainBody.TheVariants as says
-use Rattle.replica_core.specs.declared.packet.Packet.{Packet}
-use Rattle.replica_core.specs.declared.packet.Body.{Body}
-use Rattle.replica_core.specs.declared.packet.Body.TheVariants as body
+use Rattle.replica_model.specs.declared.packet.Packet.{Packet}
+use Rattle.replica_model.specs.declared.packet.Body.{Body}
+use Rattle.replica_model.specs.declared.packet.Body.TheVariants as body
 use Rattle.statement_run.specs.Statement.{Statement, call_next}
 use Rattle.statement_run.specs.Caller.{Open, Due, Caller, next, is_shown, is_read, counted, rounded, most_rounds, hears, replied}
 

@@ -11,7 +11,7 @@
 //! a call to make exactly where one comes next; a Round counts by one, to the last number. To be believed are `Statement` and
 //! `Caller`, and what a story is.
 //!
-//! Below is `replica_core`, for packets; above is `world_model`.
+//! Below is `replica_model`, for packets; above is `world_model`.
 #![tactic(auto)]
 
 mod laws;

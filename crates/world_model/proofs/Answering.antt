@@ -25,15 +25,15 @@ use Rattle.chain_world.specs.declared.packet.ChainEnd.{ChainEnd}
 use Rattle.chain_world.specs.declared.packet.ChainEnd.TheVariants as ends
 use Rattle.chain_world.specs.State.{Chains, Leader}
 use Rattle.chain_world.specs.World.{is_part}
-use Rattle.replica_core.specs.declared.packet.Place.{Place}
-use Rattle.replica_core.specs.declared.input.Tick.{Tick}
-use Rattle.replica_core.specs.declared.input.Tick.TheVariants as tick
-use Rattle.replica_core.specs.declared.input.Input.{Input}
-use Rattle.replica_core.specs.declared.input.Input.TheVariants as input
-use Rattle.replica_core.specs.Spelling.{value_of, made_of}
-use Rattle.replica_core.specs.Replica.{Replica, leads}
-use Rattle.replica_core.specs.Asks.{Asks, Nothing, Refuses, Points, Leads, Raft, Reads, asks_tick, offers_all, proposes}
-use Rattle.replica_core.specs.Stepped.{again_of}
+use Rattle.replica_model.specs.declared.packet.Place.{Place}
+use Rattle.replica_model.specs.declared.input.Tick.{Tick}
+use Rattle.replica_model.specs.declared.input.Tick.TheVariants as tick
+use Rattle.replica_model.specs.declared.input.Input.{Input}
+use Rattle.replica_model.specs.declared.input.Input.TheVariants as input
+use Rattle.replica_model.specs.Spelling.{value_of, made_of}
+use Rattle.replica_model.specs.Replica.{Replica, leads}
+use Rattle.replica_model.specs.Asks.{Asks, Nothing, Refuses, Points, Leads, Raft, Reads, asks_tick, offers_all, proposes}
+use Rattle.replica_model.specs.Stepped.{again_of}
 use Rattle.world_model.specs.State.{Space, home_of}
 use Rattle.world_model.specs.Grouped.{Has}
 use Rattle.world_model.specs.Chained.{chain_post}

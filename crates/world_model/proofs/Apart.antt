@@ -12,16 +12,16 @@ use Rattle.raft_group.specs.Group.{Group}
 use Rattle.raft_group.specs.Facts.{GroupFacts}
 use Rattle.chain_leader.specs.declared.body.About.{About}
 use Rattle.chain_leader.specs.Leading.{given_up}
-use Rattle.replica_core.specs.declared.packet.Place.{Place}
-use Rattle.replica_core.specs.declared.packet.Place.TheVariants as place
-use Rattle.replica_core.specs.declared.packet.Body.{Body}
-use Rattle.replica_core.specs.declared.packet.Body.TheVariants as body
-use Rattle.replica_core.specs.declared.input.Tick.{Tick}
-use Rattle.replica_core.specs.declared.input.Tick.TheVariants as tick
-use Rattle.replica_core.specs.declared.input.Input.{Input}
-use Rattle.replica_core.specs.declared.input.Input.TheVariants as input
-use Rattle.replica_core.specs.Replica.{Home, Replica, leads}
-use Rattle.replica_core.specs.Asks.{Asks, Nothing, Refuses, Points, Leads, Raft, Reads, asks, asks_tick, asks_message, asks_body, asks_leader, hint_in, read_in, may_hear, offers, refuses, about_in}
+use Rattle.replica_model.specs.declared.packet.Place.{Place}
+use Rattle.replica_model.specs.declared.packet.Place.TheVariants as place
+use Rattle.replica_model.specs.declared.packet.Body.{Body}
+use Rattle.replica_model.specs.declared.packet.Body.TheVariants as body
+use Rattle.replica_model.specs.declared.input.Tick.{Tick}
+use Rattle.replica_model.specs.declared.input.Tick.TheVariants as tick
+use Rattle.replica_model.specs.declared.input.Input.{Input}
+use Rattle.replica_model.specs.declared.input.Input.TheVariants as input
+use Rattle.replica_model.specs.Replica.{Home, Replica, leads}
+use Rattle.replica_model.specs.Asks.{Asks, Nothing, Refuses, Points, Leads, Raft, Reads, asks, asks_tick, asks_message, asks_body, asks_leader, hint_in, read_in, may_hear, offers, refuses, about_in}
 
 -- peers that lead one term are one
 pub leads_once : (g : Group) → GroupFacts g → (y z : ℕ) → is_leading (g.core y).role ≡ true → is_leading (g.core z).role ≡ true → (g.core y).term ≡ (g.core z).term → y ≡ z

@@ -16,18 +16,18 @@ use Rattle.chain_leader.specs.declared.letter.Letter.{Letter}
 use Rattle.chain_leader.specs.declared.letter.Letter.TheVariants.{Tell, Cross, Back, Again}
 use Rattle.chain_leader.specs.declared.body.ChainBody.{ChainBody}
 use Rattle.chain_leader.specs.declared.body.ChainBody.TheVariants as says
-use Rattle.replica_core.specs.declared.packet.To.{To}
-use Rattle.replica_core.specs.declared.packet.Body.{Body}
-use Rattle.replica_core.specs.declared.packet.Body.TheVariants as body
+use Rattle.replica_model.specs.declared.packet.To.{To}
+use Rattle.replica_model.specs.declared.packet.Body.{Body}
+use Rattle.replica_model.specs.declared.packet.Body.TheVariants as body
 use Rattle.chain_leader.specs.Leading.{Leading, Applies, on_item, on_item_by}
 use Rattle.chain_world.specs.declared.event.ChainEvent.{ChainEvent}
 use Rattle.chain_world.specs.declared.event.ChainEvent.TheVariants.{Apply}
 use Rattle.chain_world.specs.declared.packet.ChainEnd.{ChainEnd}
 use Rattle.chain_world.specs.State.{Chains, Leader, Post as ChainPost, decided_of, machine_behind as machine_of, addressed as chain_addressed, posts_of as chain_posts_of}
 use Rattle.chain_world.specs.World.{is_part, own_sender, with_applied, after, run_from}
-use Rattle.replica_core.specs.declared.packet.Place.{Place}
-use Rattle.replica_core.specs.declared.packet.Packet.{Packet}
-use Rattle.replica_core.specs.Letters.{packets_of, Worked, works}
+use Rattle.replica_model.specs.declared.packet.Place.{Place}
+use Rattle.replica_model.specs.declared.packet.Packet.{Packet}
+use Rattle.replica_model.specs.Letters.{packets_of, Worked, works}
 use Rattle.world_model.specs.State.{Space, home_of}
 use Rattle.world_model.specs.Grouped.{Has}
 use Rattle.world_model.specs.Chained.{end_of, IsMailed, HasMail, HasLike, AreSendersOf}

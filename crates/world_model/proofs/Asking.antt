@@ -14,17 +14,17 @@ use Rattle.part_keys.specs.declared.entry.PartEntry.{PartEntry}
 use Rattle.chain_leader.specs.declared.body.About.{About}
 use Rattle.chain_leader.specs.declared.body.ChainBody.{ChainBody}
 use Rattle.chain_leader.specs.Leading.{Taken, given_up, taken}
-use Rattle.replica_core.specs.declared.packet.Place.{Place}
-use Rattle.replica_core.specs.declared.packet.Place.TheVariants as place
-use Rattle.replica_core.specs.declared.packet.Body.{Body}
-use Rattle.replica_core.specs.declared.packet.Body.TheVariants as body
-use Rattle.replica_core.specs.declared.input.Tick.{Tick}
-use Rattle.replica_core.specs.declared.input.Tick.TheVariants as tick
-use Rattle.replica_core.specs.declared.input.Input.{Input}
-use Rattle.replica_core.specs.declared.input.Input.TheVariants as input
+use Rattle.replica_model.specs.declared.packet.Place.{Place}
+use Rattle.replica_model.specs.declared.packet.Place.TheVariants as place
+use Rattle.replica_model.specs.declared.packet.Body.{Body}
+use Rattle.replica_model.specs.declared.packet.Body.TheVariants as body
+use Rattle.replica_model.specs.declared.input.Tick.{Tick}
+use Rattle.replica_model.specs.declared.input.Tick.TheVariants as tick
+use Rattle.replica_model.specs.declared.input.Input.{Input}
+use Rattle.replica_model.specs.declared.input.Input.TheVariants as input
 use Rattle.part_keys.specs.Spelled.{Spelling}
-use Rattle.replica_core.specs.Replica.{Home, Replica, leads, machine_of}
-use Rattle.replica_core.specs.Asks.{Asks, Nothing, Refuses, Points, Leads, Raft, Reads, asks, asks_tick, asks_message, asks_body, asks_leader, offers_all, proposes, may_hear, refuses, may_read, Hint, Reading, about_in, hint_in, read_in, part_from, kept_sender, is_sender, offers}
+use Rattle.replica_model.specs.Replica.{Home, Replica, leads, machine_of}
+use Rattle.replica_model.specs.Asks.{Asks, Nothing, Refuses, Points, Leads, Raft, Reads, asks, asks_tick, asks_message, asks_body, asks_leader, offers_all, proposes, may_hear, refuses, may_read, Hint, Reading, about_in, hint_in, read_in, part_from, kept_sender, is_sender, offers}
 use Rattle.world_model.specs.Grouped.{Has, message_from, IsComing, IsInput}
 
 -- a step of the peer that is asked for is one that its group may take

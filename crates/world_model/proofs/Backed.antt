@@ -9,11 +9,11 @@ use Rattle.chain_world.specs.declared.event.ChainEvent.{ChainEvent}
 use Rattle.chain_world.specs.declared.event.ChainEvent.TheVariants as event
 use Rattle.chain_world.specs.State.{Chains}
 use Rattle.chain_world.specs.World.{run_from}
-use Rattle.replica_core.specs.declared.input.Tick.{Tick}
-use Rattle.replica_core.specs.declared.input.Tick.TheVariants as tick
-use Rattle.replica_core.specs.declared.input.Input.{Input}
-use Rattle.replica_core.specs.declared.input.Input.TheVariants as input
-use Rattle.replica_core.specs.Stepped.{policy_in, policy_behind}
+use Rattle.replica_model.specs.declared.input.Tick.{Tick}
+use Rattle.replica_model.specs.declared.input.Tick.TheVariants as tick
+use Rattle.replica_model.specs.declared.input.Input.{Input}
+use Rattle.replica_model.specs.declared.input.Input.TheVariants as input
+use Rattle.replica_model.specs.Stepped.{policy_in, policy_behind}
 use Rattle.world_model.specs.State.{Space}
 
 -- a policy Cancel was told; so was a tick that comes

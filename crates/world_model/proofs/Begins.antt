@@ -19,11 +19,11 @@ use Rattle.chain_leader.specs.Leading.{Leading, idle}
 use Rattle.chain_world.specs.declared.event.ChainEvent.TheVariants.{Lead}
 use Rattle.chain_world.specs.State.{Chains, Leader, made_by, decided_of, with_leader}
 use Rattle.chain_world.specs.World.{is_part, new_leader}
-use Rattle.replica_core.specs.declared.packet.Place.{Place}
-use Rattle.replica_core.specs.Spelling.{value_of, valued, values_of}
-use Rattle.replica_core.specs.Replica.{Replica, no_senders}
-use Rattle.replica_core.specs.Stepped.{senders_with}
-use Rattle.replica_core.specs.declared.input.Tick.{Tick}
+use Rattle.replica_model.specs.declared.packet.Place.{Place}
+use Rattle.replica_model.specs.Spelling.{value_of, valued, values_of}
+use Rattle.replica_model.specs.Replica.{Replica, no_senders}
+use Rattle.replica_model.specs.Stepped.{senders_with}
+use Rattle.replica_model.specs.declared.input.Tick.{Tick}
 use Rattle.world_model.specs.State.{Space}
 use Rattle.world_model.specs.Chained.{HasMade, HasLeaders, HasNoOther, IsKept, AreSendersIn}
 use Rattle.world_model.proofs.Sending.{AreSentThere}

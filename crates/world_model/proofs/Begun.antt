@@ -14,8 +14,8 @@ use Rattle.chain_world.proofs.Occurring.{after_is}
 use Rattle.chain_world.specs.declared.event.ChainEvent.{ChainEvent}
 use Rattle.chain_world.specs.declared.event.ChainEvent.TheVariants as event
 use Rattle.chain_world.specs.State.{Chains, start as chains_start, with_founded, made_by}
-use Rattle.replica_core.specs.Spelling.{value_of}
-use Rattle.replica_core.specs.declared.input.Tick.{Tick}
+use Rattle.replica_model.specs.Spelling.{value_of}
+use Rattle.replica_model.specs.declared.input.Tick.{Tick}
 use Rattle.chain_world.specs.World.{after, run, is_part, is_unfounded}
 use Rattle.chain_world.proofs.Occurring.{founding}
 use Rattle.meta_parts.specs.declared.table.PartTable.{PartTable}

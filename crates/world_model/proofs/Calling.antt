@@ -24,10 +24,10 @@ use Rattle.chain_world.specs.declared.packet.ChainEnd.{ChainEnd}
 use Rattle.chain_world.specs.declared.packet.ChainEnd.TheVariants as ends
 use Rattle.chain_world.specs.State.{Chains, Client, Post as ChainPost}
 use Rattle.chain_world.specs.World.{is_client, is_whole, may_invoke, with_invoke, is_call, is_open_at, with_reply, after, run_from, run}
-use Rattle.replica_core.specs.declared.packet.Body.TheVariants as body
-use Rattle.replica_core.specs.declared.input.Input.{Input}
-use Rattle.replica_core.specs.declared.input.Input.TheVariants as input
-use Rattle.replica_core.specs.Replica.{Row, Replica}
+use Rattle.replica_model.specs.declared.packet.Body.TheVariants as body
+use Rattle.replica_model.specs.declared.input.Input.{Input}
+use Rattle.replica_model.specs.declared.input.Input.TheVariants as input
+use Rattle.replica_model.specs.Replica.{Row, Replica}
 use Rattle.statement_run.specs.Statement.{Asked}
 use Rattle.statement_run.specs.Caller.{Caller, Open, next, next_from}
 use Rattle.world_model.specs.State.{Space, Standing, Vacant, Up, Stopped, Down, Gone, Post}

@@ -4,7 +4,7 @@ use Rattle.std.proofs.lemmas.Option.{same_Some}
 use Rattle.std.specs.List.{AllByRecursion}
 use Rattle.part_keys.specs.declared.vid_kind.VidKind.{VidKind}
 use Rattle.chain_world.specs.declared.packet.ChainEnd.{ChainEnd}
-use Rattle.replica_core.specs.declared.packet.Place.{Place}
+use Rattle.replica_model.specs.declared.packet.Place.{Place}
 use Rattle.statement_run.specs.Caller.{Open}
 use Rattle.graph_model.specs.declared.answer.Answer.{Answer}
 use Rattle.graph_model.specs.declared.answer.Answer.TheVariants as said
@@ -20,9 +20,9 @@ use Rattle.chain_world.specs.State.{Chains}
 use Rattle.chain_world.specs.World.{run}
 use Rattle.chain_world.proofs.Answered.{sent_answers_have_causes}
 use Rattle.chain_world.proofs.Members.{among_at}
-use Rattle.replica_core.specs.declared.packet.To.{To}
-use Rattle.replica_core.specs.declared.packet.To.TheVariants as to
-use Rattle.replica_core.specs.declared.packet.Body.{Body}
+use Rattle.replica_model.specs.declared.packet.To.{To}
+use Rattle.replica_model.specs.declared.packet.To.TheVariants as to
+use Rattle.replica_model.specs.declared.packet.Body.{Body}
 use Rattle.part_keys.specs.Spelled.{Spelling}
 use Rattle.world_model.specs.State.{State, start}
 use Rattle.world_model.specs.After.{Doing}

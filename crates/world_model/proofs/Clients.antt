@@ -21,14 +21,14 @@ use Rattle.chain_world.specs.declared.packet.ChainEnd.TheVariants as ends
 use Rattle.chain_world.specs.Ledger.{Ledger, invokes, replies}
 use Rattle.chain_world.specs.State.{Chains, Client, Post as ChainPost, made_by, made_by_leader}
 use Rattle.chain_world.specs.World.{after, run, with_invoke, with_reply, request_of}
-use Rattle.replica_core.specs.declared.packet.Place.{Place}
-use Rattle.replica_core.specs.declared.packet.Place.TheVariants as place
-use Rattle.replica_core.specs.declared.packet.To.{To}
-use Rattle.replica_core.specs.declared.packet.To.TheVariants as to
-use Rattle.replica_core.specs.declared.packet.Body.{Body}
-use Rattle.replica_core.specs.declared.packet.Body.TheVariants as body
-use Rattle.replica_core.specs.Letters.{to_part}
-use Rattle.replica_core.specs.declared.input.Tick.{Tick}
+use Rattle.replica_model.specs.declared.packet.Place.{Place}
+use Rattle.replica_model.specs.declared.packet.Place.TheVariants as place
+use Rattle.replica_model.specs.declared.packet.To.{To}
+use Rattle.replica_model.specs.declared.packet.To.TheVariants as to
+use Rattle.replica_model.specs.declared.packet.Body.{Body}
+use Rattle.replica_model.specs.declared.packet.Body.TheVariants as body
+use Rattle.replica_model.specs.Letters.{to_part}
+use Rattle.replica_model.specs.declared.input.Tick.{Tick}
 use Rattle.statement_run.specs.Statement.{Statement, parts_in}
 use Rattle.statement_run.specs.Caller.{Due, Caller, Open, owes, call_of, counted, invoked, request_of as client_request, rounded, rounded_from, answers, fits, hears, hears_by, hears_of, hinted_of, replied, next_from, queued}
 use Rattle.world_model.specs.declared.event.Event.TheVariants as world

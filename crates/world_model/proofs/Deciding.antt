@@ -20,7 +20,7 @@ use Rattle.chain_world.specs.State.{Chains, made_by}
 use Rattle.chain_world.specs.World.{is_part, are_at_most, may_decide, after, run_from}
 use Rattle.chain_world.proofs.Occurring.{deciding}
 use Rattle.part_keys.specs.Spelled.{Spelling}
-use Rattle.replica_core.specs.Spelling.{value_of, valued, values_of}
+use Rattle.replica_model.specs.Spelling.{value_of, valued, values_of}
 use Rattle.world_model.specs.After.{decides_all}
 use Rattle.world_model.proofs.Lists.{set_at}
 use Rattle.world_model.proofs.Backed.{IsPlain}

@@ -20,8 +20,8 @@ use Rattle.chain_world.specs.declared.packet.ChainEnd.{ChainEnd}
 use Rattle.chain_world.specs.Ledger.{Ledger}
 use Rattle.chain_world.specs.State.{Chains, made_by}
 use Rattle.chain_world.specs.World.{is_part, run_from}
-use Rattle.replica_core.specs.declared.packet.Place.{Place}
-use Rattle.replica_core.specs.Spelling.{value_of, valued, values_of}
+use Rattle.replica_model.specs.declared.packet.Place.{Place}
+use Rattle.replica_model.specs.Spelling.{value_of, valued, values_of}
 use Rattle.world_model.specs.State.{Space}
 use Rattle.world_model.specs.After.{decides_all, passes, ledger_behind}
 use Rattle.world_model.specs.Chained.{HasMade, IsKept, AreSendersIn}

@@ -17,11 +17,11 @@ use Rattle.chain_leader.specs.declared.body.ChainBody.TheVariants as says
 use Rattle.chain_world.specs.declared.packet.ChainEnd.TheVariants as ends
 use Rattle.chain_world.specs.State.{Chains, Post as ChainPost}
 use Rattle.chain_world.specs.World.{is_part}
-use Rattle.replica_core.specs.declared.packet.Place.{Place}
-use Rattle.replica_core.specs.declared.input.Input.{Input}
-use Rattle.replica_core.specs.declared.input.Tick.{Tick}
-use Rattle.replica_core.specs.Replica.{Replica}
-use Rattle.replica_core.specs.Stepped.{Viewed, senders_with, again_of, leads_on, policy_behind, raft_step}
+use Rattle.replica_model.specs.declared.packet.Place.{Place}
+use Rattle.replica_model.specs.declared.input.Input.{Input}
+use Rattle.replica_model.specs.declared.input.Tick.{Tick}
+use Rattle.replica_model.specs.Replica.{Replica}
+use Rattle.replica_model.specs.Stepped.{Viewed, senders_with, again_of, leads_on, policy_behind, raft_step}
 use Rattle.world_model.specs.State.{Space, home_of, moment_in}
 use Rattle.world_model.specs.After.{asked_behind}
 use Rattle.world_model.specs.Grouped.{Has}

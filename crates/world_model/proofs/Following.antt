@@ -16,13 +16,13 @@ use Rattle.chain_leader.specs.Leading.{Leading}
 use Rattle.chain_world.specs.declared.event.ChainEvent.{ChainEvent}
 use Rattle.chain_world.specs.State.{Chains, Post as ChainPost}
 use Rattle.chain_world.specs.World.{is_part, run_from}
-use Rattle.replica_core.specs.declared.packet.Place.{Place}
-use Rattle.replica_core.specs.declared.packet.Packet.{Packet}
-use Rattle.replica_core.specs.Spelling.{values_of}
-use Rattle.replica_core.specs.Replica.{Row}
-use Rattle.replica_core.specs.Letters.{Worked, works, packets_of}
-use Rattle.replica_core.specs.Stepped.{Leaving, leaving, Stepped, Led, message_of, answer_row, is_confirmed, leaves_of, raft_behind}
-use Rattle.replica_core.specs.declared.input.Tick.{Tick}
+use Rattle.replica_model.specs.declared.packet.Place.{Place}
+use Rattle.replica_model.specs.declared.packet.Packet.{Packet}
+use Rattle.replica_model.specs.Spelling.{values_of}
+use Rattle.replica_model.specs.Replica.{Row}
+use Rattle.replica_model.specs.Letters.{Worked, works, packets_of}
+use Rattle.replica_model.specs.Stepped.{Leaving, leaving, Stepped, Led, message_of, answer_row, is_confirmed, leaves_of, raft_behind}
+use Rattle.replica_model.specs.declared.input.Tick.{Tick}
 use Rattle.world_model.specs.State.{Space, home_of, moment_in}
 use Rattle.world_model.specs.After.{ledger_behind}
 use Rattle.world_model.specs.Grouped.{Has}

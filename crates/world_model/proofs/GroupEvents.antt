@@ -12,20 +12,20 @@ use Rattle.raft_group.specs.declared.event.GroupEvent.TheVariants.{Place as Plac
 use Rattle.raft_group.specs.Group.{Group, first_members, blank, with_crash, with_peer, may_place}
 use Rattle.raft_group.specs.Facts.{GroupFacts}
 use Rattle.raft_group.proofs.Members.{same_put, put_there}
-use Rattle.replica_core.specs.declared.packet.Place.{Place}
-use Rattle.replica_core.specs.declared.packet.Place.TheVariants as place
-use Rattle.replica_core.specs.declared.packet.To.{To}
-use Rattle.replica_core.specs.declared.packet.To.TheVariants as to
-use Rattle.replica_core.specs.declared.packet.Body.{Body}
-use Rattle.replica_core.specs.declared.packet.Body.TheVariants as body
+use Rattle.replica_model.specs.declared.packet.Place.{Place}
+use Rattle.replica_model.specs.declared.packet.Place.TheVariants as place
+use Rattle.replica_model.specs.declared.packet.To.{To}
+use Rattle.replica_model.specs.declared.packet.To.TheVariants as to
+use Rattle.replica_model.specs.declared.packet.Body.{Body}
+use Rattle.replica_model.specs.declared.packet.Body.TheVariants as body
 use Rattle.meta_parts.specs.declared.table.PartTable.{PartTable}
-use Rattle.replica_core.specs.declared.input.Input.{Input}
-use Rattle.replica_core.specs.declared.input.Input.TheVariants as input
-use Rattle.replica_core.specs.declared.input.Tick.{Tick}
-use Rattle.replica_core.specs.Spelling.{values_of}
-use Rattle.replica_core.specs.Replica.{Replica, opened, created}
-use Rattle.replica_core.specs.Asks.{Asks, Nothing, Refuses, Points, Leads, Raft, Reads, asks}
-use Rattle.replica_core.specs.Stepped.{stepped}
+use Rattle.replica_model.specs.declared.input.Input.{Input}
+use Rattle.replica_model.specs.declared.input.Input.TheVariants as input
+use Rattle.replica_model.specs.declared.input.Tick.{Tick}
+use Rattle.replica_model.specs.Spelling.{values_of}
+use Rattle.replica_model.specs.Replica.{Replica, opened, created}
+use Rattle.replica_model.specs.Asks.{Asks, Nothing, Refuses, Points, Leads, Raft, Reads, asks}
+use Rattle.replica_model.specs.Stepped.{stepped}
 use Rattle.world_model.specs.declared.event.Cause.TheVariants as cause
 use Rattle.world_model.specs.declared.event.Event.{Event}
 use Rattle.world_model.specs.declared.event.Event.TheVariants as event

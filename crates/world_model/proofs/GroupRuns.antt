@@ -5,7 +5,7 @@ use Rattle.std.specs.List.{AllByRecursion}
 use Rattle.std.proofs.lemmas.Option.{none-some}
 use Rattle.raft_group.specs.Group.{Group, start as group_start}
 use Rattle.meta_parts.specs.declared.table.PartTable.{PartTable}
-use Rattle.replica_core.specs.declared.input.Input.TheVariants as input
+use Rattle.replica_model.specs.declared.input.Input.TheVariants as input
 use Rattle.statement_run.specs.Caller.{Open, request_of, call_of, counted}
 use Rattle.world_model.specs.declared.event.Cause.{Cause}
 use Rattle.world_model.specs.declared.event.Cause.TheVariants as cause

@@ -20,11 +20,11 @@ use Rattle.raft_group.proofs.Runs.{runs_on}
 use Rattle.raft_group.proofs.Safety.{safe_always}
 use Rattle.part_keys.specs.declared.proposal.Proposal.{Proposal}
 use Rattle.chain_world.specs.Ledger.{Ledger, decides}
-use Rattle.replica_core.specs.declared.input.Input.{Input}
-use Rattle.replica_core.specs.Spelling.{values_of, valued}
-use Rattle.replica_core.specs.Replica.{Home, Replica}
-use Rattle.replica_core.specs.Asks.{Asks, Nothing, Refuses, Points, Leads, Raft, Reads}
-use Rattle.replica_core.specs.Stepped.{does}
+use Rattle.replica_model.specs.declared.input.Input.{Input}
+use Rattle.replica_model.specs.Spelling.{values_of, valued}
+use Rattle.replica_model.specs.Replica.{Home, Replica}
+use Rattle.replica_model.specs.Asks.{Asks, Nothing, Refuses, Points, Leads, Raft, Reads}
+use Rattle.replica_model.specs.Stepped.{does}
 use Rattle.world_model.specs.State.{Space}
 use Rattle.world_model.specs.After.{decides_all, passes, ledger_behind}
 use Rattle.world_model.specs.Grouped.{Has}

@@ -10,11 +10,11 @@ use Rattle.raft_core.specs.Step.{stepped as raft_stepped}
 use Rattle.raft_group.specs.Group.{Group, with_step}
 use Rattle.raft_group.specs.Facts.{GroupFacts}
 use Rattle.chain_leader.specs.Leading.{read}
-use Rattle.replica_core.specs.declared.input.Input.{Input}
-use Rattle.replica_core.specs.Spelling.{values_of}
-use Rattle.replica_core.specs.Replica.{Replica, machine_of}
-use Rattle.replica_core.specs.Asks.{Asks, Nothing, Refuses, Points, Leads, Raft, Reads, asks}
-use Rattle.replica_core.specs.Stepped.{Stepped, stepped, does, message_of, leads_on}
+use Rattle.replica_model.specs.declared.input.Input.{Input}
+use Rattle.replica_model.specs.Spelling.{values_of}
+use Rattle.replica_model.specs.Replica.{Replica, machine_of}
+use Rattle.replica_model.specs.Asks.{Asks, Nothing, Refuses, Points, Leads, Raft, Reads, asks}
+use Rattle.replica_model.specs.Stepped.{Stepped, stepped, does, message_of, leads_on}
 use Rattle.world_model.specs.State.{Space, home_of, Up, Post, posted, State, now}
 use Rattle.world_model.specs.After.{ledger_behind, asked_behind, posts_with}
 use Rattle.world_model.specs.Grouped.{IsSpace, IsInput, IsHere, Grouped}

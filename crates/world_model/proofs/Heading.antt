@@ -18,10 +18,10 @@ use Rattle.chain_leader.specs.Leading.{Leading}
 use Rattle.chain_world.specs.declared.event.ChainEvent.{ChainEvent}
 use Rattle.chain_world.specs.State.{Chains, Leader, Post as ChainPost, decided_of}
 use Rattle.chain_world.specs.World.{is_part, run_from}
-use Rattle.replica_core.specs.declared.packet.Place.{Place}
-use Rattle.replica_core.specs.Spelling.{valued, values_of}
-use Rattle.replica_core.specs.Letters.{Worked, works}
-use Rattle.replica_core.specs.declared.input.Tick.{Tick}
+use Rattle.replica_model.specs.declared.packet.Place.{Place}
+use Rattle.replica_model.specs.Spelling.{valued, values_of}
+use Rattle.replica_model.specs.Letters.{Worked, works}
+use Rattle.replica_model.specs.declared.input.Tick.{Tick}
 use Rattle.world_model.specs.State.{Space, home_of}
 use Rattle.world_model.specs.After.{ledger_behind}
 use Rattle.world_model.specs.Grouped.{Has}

@@ -15,16 +15,16 @@ use Rattle.chain_leader.specs.declared.body.ChainBody.TheVariants as says
 use Rattle.chain_leader.specs.Leading.{taken}
 use Rattle.chain_world.specs.State.{Chains, Leader, machine_behind as chain_machine_of}
 use Rattle.chain_world.specs.World.{is_part}
-use Rattle.replica_core.specs.declared.packet.Place.{Place}
-use Rattle.replica_core.specs.declared.packet.Place.TheVariants as place
-use Rattle.replica_core.specs.declared.packet.Body.{Body}
-use Rattle.replica_core.specs.declared.packet.Body.TheVariants as body
-use Rattle.replica_core.specs.declared.packet.Packet.{Packet}
-use Rattle.replica_core.specs.declared.input.Input.{Input}
-use Rattle.replica_core.specs.declared.input.Input.TheVariants as input
-use Rattle.replica_core.specs.declared.input.Tick.{Tick}
-use Rattle.replica_core.specs.Replica.{Replica, leads, machine_of, waits}
-use Rattle.replica_core.specs.Asks.{Asks, Nothing, Points, Raft, Reads, asks, asks_message, asks_leader, asks_body, may_hear, part_from, kept_sender, may_read, takes, offers, is_sender, query_of, hint_in, read_in, refuses, about_in}
+use Rattle.replica_model.specs.declared.packet.Place.{Place}
+use Rattle.replica_model.specs.declared.packet.Place.TheVariants as place
+use Rattle.replica_model.specs.declared.packet.Body.{Body}
+use Rattle.replica_model.specs.declared.packet.Body.TheVariants as body
+use Rattle.replica_model.specs.declared.packet.Packet.{Packet}
+use Rattle.replica_model.specs.declared.input.Input.{Input}
+use Rattle.replica_model.specs.declared.input.Input.TheVariants as input
+use Rattle.replica_model.specs.declared.input.Tick.{Tick}
+use Rattle.replica_model.specs.Replica.{Replica, leads, machine_of, waits}
+use Rattle.replica_model.specs.Asks.{Asks, Nothing, Points, Raft, Reads, asks, asks_message, asks_leader, asks_body, may_hear, part_from, kept_sender, may_read, takes, offers, is_sender, query_of, hint_in, read_in, refuses, about_in}
 use Rattle.world_model.specs.State.{Space, home_of}
 use Rattle.world_model.specs.Chained.{end_in, IsMailed, HasMail, HasInput, IsHeard}
 use Rattle.world_model.proofs.Preparing.{Prepared, take_prepared}

@@ -15,8 +15,8 @@ use Rattle.meta_parts.specs.declared.table.PartTable.{PartTable}
 use Rattle.meta_parts.specs.declared.table.MetaBody.{MetaBody}
 use Rattle.meta_parts.specs.declared.table.MetaBody.TheVariants as body
 use Rattle.meta_parts.specs.Table.{boot, written, counted_on, rows_behind}
-use Rattle.replica_core.specs.declared.input.Input.TheVariants as input
-use Rattle.replica_core.specs.declared.input.Tick.{Tick}
+use Rattle.replica_model.specs.declared.input.Input.TheVariants as input
+use Rattle.replica_model.specs.declared.input.Tick.{Tick}
 use Rattle.part_keys.specs.Spelled.{Spelling}
 use Rattle.raft_core.proofs.Lists.{all_both}
 use Rattle.world_model.specs.declared.event.Cause.{Cause}

@@ -2,8 +2,8 @@
 use Rattle.std.proofs.Common.{◌≡◌, ◌≢◌, ℕ, List, [], ◌∷◌, ◌++◌, map, Option, None, Some, Bool, true, false, cond, refl, ap, sym, subst, ◌∙◌, eqb-true, append-nil, inl}
 use Rattle.std.specs.Prelude.{◌==◌, ◌&&◌, slice_get}
 use Rattle.std.proofs.lemmas.Bool.{cond-true, and_from, eq-eqb}
-use Rattle.replica_core.specs.declared.packet.Packet.{Packet}
-use Rattle.replica_core.specs.Stepped.{Leaving}
+use Rattle.replica_model.specs.declared.packet.Packet.{Packet}
+use Rattle.replica_model.specs.Stepped.{Leaving}
 use Rattle.statement_run.specs.Caller.{Caller}
 use Rattle.world_model.specs.declared.event.Cause.TheVariants as cause
 use Rattle.world_model.specs.declared.event.Event.{Event}

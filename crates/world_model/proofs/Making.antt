@@ -20,7 +20,7 @@ use Rattle.part_keys.specs.declared.proposal.Proposal.{Proposal}
 use Rattle.chain_world.specs.State.{Chains, Leader, made_by, made_by_leader}
 use Rattle.chain_world.specs.World.{new_leader}
 use Rattle.part_keys.specs.Spelled.{Spelling}
-use Rattle.replica_core.specs.Spelling.{value_of, valued, values_of}
+use Rattle.replica_model.specs.Spelling.{value_of, valued, values_of}
 use Rattle.world_model.specs.State.{Space}
 use Rattle.world_model.specs.Chained.{HasMade, HasLeaders, HasNoOther}
 use Rattle.world_model.proofs.Moving.{Moves}

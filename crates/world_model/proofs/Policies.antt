@@ -17,8 +17,8 @@ use Rattle.chain_world.specs.State.{Post, Leader, Chains, start, made_by, machin
 use Rattle.chain_world.specs.World.{may_invoke, with_invoke, is_unfounded, with_made, may_lead, new_leader, is_to, part_from, taking, may_decide, applying, knows_all, first_asked, is_open_at, moment_of, with_reply, after, run, run_from}
 use Rattle.chain_world.proofs.Moving.{leader_set, set_split}
 use Rattle.chain_world.proofs.Occurring.{member_proposed, founding, took, deciding, applied_next, applies, told_waits, told_again, showing, sees, may_end, ended, is_in_range, occurs, after_is}
-use Rattle.replica_core.specs.declared.input.Tick.{Tick}
-use Rattle.replica_core.specs.declared.input.Tick.TheVariants as tick
+use Rattle.replica_model.specs.declared.input.Tick.{Tick}
+use Rattle.replica_model.specs.declared.input.Tick.TheVariants as tick
 use Rattle.world_model.proofs.Backed.{Elects, Backed}
 use Rattle.world_model.proofs.Steady.{taken_steady, given_up_steady, item_policy}
 

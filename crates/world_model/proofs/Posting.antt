@@ -17,13 +17,13 @@ use Rattle.part_rules.specs.Folded.{item_applied}
 use Rattle.chain_leader.specs.declared.letter.Letter.{Letter}
 use Rattle.chain_leader.specs.declared.letter.Letter.TheVariants.{Tell, Cross, Back, Again}
 use Rattle.chain_leader.specs.Leading.{Leading, Taken, on_item}
-use Rattle.replica_core.specs.declared.packet.Place.{Place}
-use Rattle.replica_core.specs.declared.packet.Packet.{Packet}
-use Rattle.replica_core.specs.declared.input.Input.{Input}
-use Rattle.replica_core.specs.Spelling.{values_of}
-use Rattle.replica_core.specs.Replica.{Home, Replica, machine_of}
-use Rattle.replica_core.specs.Letters.{Worked, addressed, packets_of, works}
-use Rattle.replica_core.specs.Stepped.{Leaving, leaving, Viewed, Led, led_of, message_of, answer_row, is_confirmed, led_by, policy_behind, leaves_of, rules_behind}
+use Rattle.replica_model.specs.declared.packet.Place.{Place}
+use Rattle.replica_model.specs.declared.packet.Packet.{Packet}
+use Rattle.replica_model.specs.declared.input.Input.{Input}
+use Rattle.replica_model.specs.Spelling.{values_of}
+use Rattle.replica_model.specs.Replica.{Home, Replica, machine_of}
+use Rattle.replica_model.specs.Letters.{Worked, addressed, packets_of, works}
+use Rattle.replica_model.specs.Stepped.{Leaving, leaving, Viewed, Led, led_of, message_of, answer_row, is_confirmed, led_by, policy_behind, leaves_of, rules_behind}
 use Rattle.world_model.specs.State.{Post, posted}
 use Rattle.world_model.specs.Grouped.{Has, IsCarried}
 use Rattle.world_model.proofs.Lists.{map_has, has_right}

@@ -24,11 +24,11 @@ use Rattle.chain_world.specs.declared.packet.ChainEnd.TheVariants as ends
 use Rattle.chain_world.specs.State.{Chains, Leader, machine_behind as machine_of, posts_of, with_leader}
 use Rattle.chain_world.specs.World.{is_part, sender_of, is_to, part_from as chain_part_from, kept_sender as chain_kept_sender, behind_taking, with_taken, with_made, after, run_from}
 use Rattle.chain_world.proofs.Occurring.{member_proposed, told_waits, told_again}
-use Rattle.replica_core.specs.declared.packet.Place.{Place}
-use Rattle.replica_core.specs.declared.packet.Place.TheVariants as place
-use Rattle.replica_core.specs.Asks.{part_from, kept_sender}
-use Rattle.replica_core.specs.declared.input.Tick.{Tick}
-use Rattle.replica_core.specs.declared.input.Tick.TheVariants as tick
+use Rattle.replica_model.specs.declared.packet.Place.{Place}
+use Rattle.replica_model.specs.declared.packet.Place.TheVariants as place
+use Rattle.replica_model.specs.Asks.{part_from, kept_sender}
+use Rattle.replica_model.specs.declared.input.Tick.{Tick}
+use Rattle.replica_model.specs.declared.input.Tick.TheVariants as tick
 use Rattle.world_model.specs.State.{Space}
 use Rattle.world_model.specs.Chained.{end_in, IsSender, IsMailed, AreSendersOf, chain_post}
 use Rattle.world_model.proofs.Lists.{get_left, has_right}

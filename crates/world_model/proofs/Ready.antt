@@ -16,10 +16,10 @@ use Rattle.part_keys.specs.declared.proposal.Proposal.TheVariants.{Start, Member
 use Rattle.part_rules.specs.Part.{Part}
 use Rattle.part_rules.specs.Folded.{item_applied as item_folded}
 use Rattle.chain_leader.specs.Leading.{Leading, on_item, on_item_by}
-use Rattle.replica_core.specs.declared.packet.Place.{Place}
-use Rattle.replica_core.specs.Spelling.{valued, values_of}
-use Rattle.replica_core.specs.Replica.{Home}
-use Rattle.replica_core.specs.Letters.{works}
+use Rattle.replica_model.specs.declared.packet.Place.{Place}
+use Rattle.replica_model.specs.Spelling.{valued, values_of}
+use Rattle.replica_model.specs.Replica.{Home}
+use Rattle.replica_model.specs.Letters.{works}
 use Rattle.world_model.specs.State.{Space}
 use Rattle.world_model.specs.Chained.{HasOwn}
 use Rattle.world_model.proofs.Lists.{get_left}

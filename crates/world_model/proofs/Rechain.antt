@@ -8,9 +8,9 @@ use Rattle.raft_core.specs.Core.{Core, is_leading}
 use Rattle.raft_group.specs.Group.{Group, Round}
 use Rattle.chain_world.specs.State.{Chains, made_by, made_by_leader}
 use Rattle.chain_world.specs.World.{is_part}
-use Rattle.replica_core.specs.Replica.{Replica}
-use Rattle.replica_core.specs.Stepped.{Leaving, Stepped}
-use Rattle.replica_core.specs.declared.input.Tick.{Tick}
+use Rattle.replica_model.specs.Replica.{Replica}
+use Rattle.replica_model.specs.Stepped.{Leaving, Stepped}
+use Rattle.replica_model.specs.declared.input.Tick.{Tick}
 use Rattle.statement_run.specs.Caller.{Caller}
 use Rattle.chain_world.specs.Ledger.{Ledger}
 use Rattle.world_model.specs.State.{Space, Standing, Vacant, Up, Stopped, Down, Gone, Post, posted, moment_in}

@@ -14,14 +14,14 @@ use Rattle.chain_leader.specs.Leading.{Leading}
 use Rattle.chain_world.specs.State.{Chains}
 use Rattle.chain_world.specs.World.{is_part}
 use Rattle.chain_world.specs.Ledger.{Ledger}
-use Rattle.replica_core.specs.declared.packet.Place.{Place}
-use Rattle.replica_core.specs.declared.packet.Packet.{Packet}
-use Rattle.replica_core.specs.declared.input.Input.{Input}
-use Rattle.replica_core.specs.declared.input.Tick.{Tick}
-use Rattle.replica_core.specs.Spelling.{values_of}
-use Rattle.replica_core.specs.Replica.{Row, Replica}
-use Rattle.replica_core.specs.Letters.{Worked, packets_of, works}
-use Rattle.replica_core.specs.Stepped.{Leaving, leaving, Viewed, Led, led_of, led_by, policy_behind, message_of, answer_row, is_confirmed, keeps_rows, row_with, leaves_of, raft_behind}
+use Rattle.replica_model.specs.declared.packet.Place.{Place}
+use Rattle.replica_model.specs.declared.packet.Packet.{Packet}
+use Rattle.replica_model.specs.declared.input.Input.{Input}
+use Rattle.replica_model.specs.declared.input.Tick.{Tick}
+use Rattle.replica_model.specs.Spelling.{values_of}
+use Rattle.replica_model.specs.Replica.{Row, Replica}
+use Rattle.replica_model.specs.Letters.{Worked, packets_of, works}
+use Rattle.replica_model.specs.Stepped.{Leaving, leaving, Viewed, Led, led_of, led_by, policy_behind, message_of, answer_row, is_confirmed, keeps_rows, row_with, leaves_of, raft_behind}
 use Rattle.world_model.specs.State.{Space, home_of, moment_in}
 use Rattle.world_model.specs.After.{decides_all, passes, ledger_behind}
 use Rattle.world_model.specs.Chained.{HasLike, HasMade, HasLeaders, HasNoOther}

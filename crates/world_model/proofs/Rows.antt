@@ -24,8 +24,8 @@ use Rattle.chain_world.specs.State.{Chains, Leader, Post as ChainPost, decided_o
 use Rattle.chain_world.specs.World.{is_part, first_asked, knows_all, after}
 use Rattle.chain_world.proofs.Occurring.{shown_to}
 use Rattle.chain_world.proofs.Occurring.{showing, sees}
-use Rattle.replica_core.specs.Replica.{Row}
-use Rattle.replica_core.specs.Stepped.{Leaving, Viewed, row_with, keeps_rows, rows_with, is_confirmed, answer_row}
+use Rattle.replica_model.specs.Replica.{Row}
+use Rattle.replica_model.specs.Stepped.{Leaving, Viewed, row_with, keeps_rows, rows_with, is_confirmed, answer_row}
 use Rattle.world_model.specs.State.{moment_in}
 use Rattle.world_model.specs.Grouped.{Has}
 use Rattle.world_model.specs.Chained.{chain_post, HasLike, IsRow}

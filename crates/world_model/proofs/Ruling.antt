@@ -12,11 +12,11 @@ use Rattle.raft_group.specs.Facts.{GroupFacts, LeadsBy, StandsAt, pairs_of}
 use Rattle.chain_leader.specs.Leading.{Leading, Taken}
 use Rattle.chain_world.specs.State.{Chains, made_by}
 use Rattle.chain_world.specs.World.{is_part}
-use Rattle.replica_core.specs.Spelling.{value_of, valued, values_of}
-use Rattle.replica_core.specs.Replica.{Replica}
-use Rattle.replica_core.specs.Letters.{packets_of}
-use Rattle.replica_core.specs.Stepped.{Leaving, leaving, still, rules_behind}
-use Rattle.replica_core.specs.declared.input.Tick.{Tick}
+use Rattle.replica_model.specs.Spelling.{value_of, valued, values_of}
+use Rattle.replica_model.specs.Replica.{Replica}
+use Rattle.replica_model.specs.Letters.{packets_of}
+use Rattle.replica_model.specs.Stepped.{Leaving, leaving, still, rules_behind}
+use Rattle.replica_model.specs.declared.input.Tick.{Tick}
 use Rattle.world_model.specs.State.{Space, home_of, moment_in}
 use Rattle.world_model.specs.After.{ledger_behind}
 use Rattle.world_model.specs.Chained.{HasLike, HasMade, HasLeaders, HasNoOther, IsRow, IsLeader, IsReplica}

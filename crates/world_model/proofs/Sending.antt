@@ -20,13 +20,13 @@ use Rattle.chain_leader.specs.Leading.{told, reply_to, back_of, answers_of}
 use Rattle.chain_world.specs.declared.packet.ChainEnd.{ChainEnd}
 use Rattle.chain_world.specs.declared.packet.ChainEnd.TheVariants as ends
 use Rattle.chain_world.specs.State.{Post as ChainPost, addressed as chain_addressed, posts_of as chain_posts_of}
-use Rattle.replica_core.specs.declared.packet.Place.{Place}
-use Rattle.replica_core.specs.declared.packet.Place.TheVariants as place
-use Rattle.replica_core.specs.declared.packet.To.{To}
-use Rattle.replica_core.specs.declared.packet.To.TheVariants as to
-use Rattle.replica_core.specs.declared.packet.Body.TheVariants as body
-use Rattle.replica_core.specs.declared.packet.Packet.{Packet}
-use Rattle.replica_core.specs.Letters.{to_part, to_place, addressed, packets_of, chain_of}
+use Rattle.replica_model.specs.declared.packet.Place.{Place}
+use Rattle.replica_model.specs.declared.packet.Place.TheVariants as place
+use Rattle.replica_model.specs.declared.packet.To.{To}
+use Rattle.replica_model.specs.declared.packet.To.TheVariants as to
+use Rattle.replica_model.specs.declared.packet.Body.TheVariants as body
+use Rattle.replica_model.specs.declared.packet.Packet.{Packet}
+use Rattle.replica_model.specs.Letters.{to_part, to_place, addressed, packets_of, chain_of}
 use Rattle.world_model.specs.Grouped.{Has}
 use Rattle.world_model.specs.Chained.{end_in, chain_post, HasMail, HasLike, AreSendersOf}
 use Rattle.world_model.proofs.Own.{IsOwnBody, IsOwn, AreOwn}

@@ -16,9 +16,9 @@ use Rattle.chain_leader.specs.declared.body.ChainBody.TheVariants as says
 use Rattle.chain_leader.specs.Calls.{is_write}
 use Rattle.chain_leader.specs.Rules.{on_remote, on_fence, give_up}
 use Rattle.chain_leader.specs.Leading.{Leading, Taken, taken, given_up, proposing, asking, still, resuming, standing_behind, on_item, on_item_by}
-use Rattle.replica_core.specs.declared.packet.Place.{Place}
-use Rattle.replica_core.specs.Replica.{Home}
-use Rattle.replica_core.specs.Letters.{works}
+use Rattle.replica_model.specs.declared.packet.Place.{Place}
+use Rattle.replica_model.specs.Replica.{Home}
+use Rattle.replica_model.specs.Letters.{works}
 
 -- No packet and no call that is given up makes a leader ready or unready, or changes its policy.
 pub record IsSteady (before behind : Leading) : Type 0 where

@@ -19,13 +19,13 @@ use Rattle.chain_leader.specs.Leading.{Leading, idle}
 use Rattle.chain_world.specs.State.{Chains}
 use Rattle.chain_world.specs.World.{is_part}
 use Rattle.part_rules.specs.Folded.{folded}
-use Rattle.replica_core.specs.declared.packet.Place.{Place}
-use Rattle.replica_core.specs.declared.input.Input.{Input}
-use Rattle.replica_core.specs.declared.input.Tick.{Tick}
-use Rattle.replica_core.specs.Spelling.{values_of}
-use Rattle.replica_core.specs.Replica.{Replica, machine_of, no_senders, no_hints}
-use Rattle.replica_core.specs.Letters.{Worked, works}
-use Rattle.replica_core.specs.Stepped.{Viewed, led_of, leads_on, policy_behind, senders_with, again_of, rows_with, row_with, keeps_rows, raft_behind, raft_step}
+use Rattle.replica_model.specs.declared.packet.Place.{Place}
+use Rattle.replica_model.specs.declared.input.Input.{Input}
+use Rattle.replica_model.specs.declared.input.Tick.{Tick}
+use Rattle.replica_model.specs.Spelling.{values_of}
+use Rattle.replica_model.specs.Replica.{Replica, machine_of, no_senders, no_hints}
+use Rattle.replica_model.specs.Letters.{Worked, works}
+use Rattle.replica_model.specs.Stepped.{Viewed, led_of, leads_on, policy_behind, senders_with, again_of, rows_with, row_with, keeps_rows, raft_behind, raft_step}
 use Rattle.world_model.specs.State.{Space, home_of}
 use Rattle.world_model.specs.After.{ledger_behind}
 use Rattle.world_model.specs.Chained.{HasMade, HasLeaders, HasNoOther, HasOwn, IsRow}

@@ -19,7 +19,7 @@ use Rattle.part_rules.specs.declared.applied.Applied.TheVariants.{Old, Again, Co
 use Rattle.part_rules.specs.Part.{Part}
 use Rattle.chain_world.specs.Ledger.{Ledger, decides, caller_of, machine_of, next_applied, primed_steps, ended_steps, vertex_steps, remote_steps, steps_of_entry, steps_of_item, reply_steps}
 use Rattle.part_keys.specs.Spelled.{Spelling}
-use Rattle.replica_core.specs.Spelling.{values_of}
+use Rattle.replica_model.specs.Spelling.{values_of}
 use Rattle.world_model.specs.declared.event.Event.{Event}
 use Rattle.world_model.specs.declared.event.Event.TheVariants as event
 use Rattle.world_model.specs.State.{Space, home_of, Standing, Post, State, start, Site, AtClient, AtPeer, Nowhere}

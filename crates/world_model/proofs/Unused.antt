@@ -9,8 +9,8 @@ use Rattle.chain_leader.specs.declared.body.About.{About}
 use Rattle.chain_leader.specs.declared.body.About.TheVariants as about
 use Rattle.chain_leader.specs.declared.body.ChainBody.{ChainBody}
 use Rattle.chain_leader.specs.declared.body.ChainBody.TheVariants as says
-use Rattle.replica_core.specs.declared.packet.Body.{Body}
-use Rattle.replica_core.specs.declared.packet.Body.TheVariants as packet_body
+use Rattle.replica_model.specs.declared.packet.Body.{Body}
+use Rattle.replica_model.specs.declared.packet.Body.TheVariants as packet_body
 use Rattle.statement_run.specs.Caller.{Caller, Open, Due, queued, rounded_from, answers, hears_by, hears_of, hinted_of}
 use Rattle.world_model.specs.declared.event.Cause.{Cause}
 use Rattle.world_model.specs.declared.event.Cause.TheVariants as cause

@@ -9,7 +9,7 @@ use Rattle.chain_world.specs.declared.event.ChainEvent.{ChainEvent}
 use Rattle.chain_world.specs.Ledger.{Ledger}
 use Rattle.chain_world.specs.State.{Chains, Post as ChainPost}
 use Rattle.chain_world.specs.World.{is_part, run_from}
-use Rattle.replica_core.specs.declared.input.Tick.{Tick}
+use Rattle.replica_model.specs.declared.input.Tick.{Tick}
 use Rattle.world_model.specs.State.{Space}
 use Rattle.world_model.specs.Grouped.{Has}
 use Rattle.world_model.specs.Chained.{HasMade, HasLeaders, HasNoOther}

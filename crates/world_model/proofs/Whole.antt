@@ -19,13 +19,13 @@ use Rattle.chain_leader.specs.declared.letter.Letter.{Letter}
 use Rattle.chain_leader.specs.Leading.{Leading, read}
 use Rattle.chain_world.specs.State.{Chains, decided_of, machine_behind as chain_machine_of}
 use Rattle.chain_world.specs.World.{first_asked, run_from}
-use Rattle.replica_core.specs.declared.packet.Place.{Place}
-use Rattle.replica_core.specs.declared.input.Input.{Input}
-use Rattle.replica_core.specs.declared.input.Tick.{Tick}
-use Rattle.replica_core.specs.Spelling.{valued, values_of}
-use Rattle.replica_core.specs.Replica.{Replica, machine_of}
-use Rattle.replica_core.specs.Asks.{Asks, Nothing, Refuses, Points, Leads, Raft, Reads, asks}
-use Rattle.replica_core.specs.Stepped.{Viewed, stepped, does, leaving, refusal_to, pointed, policy_behind, raft_step}
+use Rattle.replica_model.specs.declared.packet.Place.{Place}
+use Rattle.replica_model.specs.declared.input.Input.{Input}
+use Rattle.replica_model.specs.declared.input.Tick.{Tick}
+use Rattle.replica_model.specs.Spelling.{valued, values_of}
+use Rattle.replica_model.specs.Replica.{Replica, machine_of}
+use Rattle.replica_model.specs.Asks.{Asks, Nothing, Refuses, Points, Leads, Raft, Reads, asks}
+use Rattle.replica_model.specs.Stepped.{Viewed, stepped, does, leaving, refusal_to, pointed, policy_behind, raft_step}
 use Rattle.world_model.specs.State.{Space, home_of, Up}
 use Rattle.world_model.specs.After.{asked_behind}
 use Rattle.world_model.specs.Chained.{HasMade, HasLeaders, HasNoOther, IsHeard, IsReplica, ChainFacts}

@@ -10,7 +10,7 @@ use Rattle.graph_model.specs.declared.answer.Answer.TheVariants.{Shown}
 use Rattle.part_keys.specs.declared.chain.Policy.TheVariants.{Forward}
 use Rattle.part_keys.specs.declared.vid_kind.VidKind.TheVariants.{Num}
 use Rattle.meta_parts.specs.declared.table.MetaBody.TheVariants.{Allocate}
-use Rattle.replica_core.specs.declared.input.Tick.TheVariants as tick
+use Rattle.replica_model.specs.declared.input.Tick.TheVariants as tick
 use Rattle.world_model.specs.declared.event.Event.{Event}
 use Rattle.world_model.specs.declared.event.Event.TheVariants as event
 use Rattle.world_model.specs.State.{State, start}

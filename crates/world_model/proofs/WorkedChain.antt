@@ -26,17 +26,17 @@ use Rattle.chain_leader.specs.declared.letter.Letter.TheVariants.{Tell, Cross, B
 use Rattle.chain_leader.specs.Rules.{Table}
 use Rattle.chain_leader.specs.Leading.{Leading, Taken, Applies, taken, on_item}
 use Rattle.chain_world.specs.Ledger.{Ledger, remote_steps, primed_steps, ended_steps}
-use Rattle.replica_core.specs.declared.packet.Place.{Place}
-use Rattle.replica_core.specs.declared.packet.Place.TheVariants as place
-use Rattle.replica_core.specs.declared.packet.Packet.{Packet}
-use Rattle.replica_core.specs.declared.packet.To.TheVariants as to
-use Rattle.replica_core.specs.declared.packet.Body.TheVariants as body
-use Rattle.replica_core.specs.declared.input.Input.TheVariants as input
-use Rattle.replica_core.specs.declared.input.Tick.TheVariants.{Elect}
-use Rattle.replica_core.specs.Letters.{used, is_about, packet_of, packets_of, then_works}
-use Rattle.replica_core.specs.Replica.{Home, Replica, created, no_senders, no_hints}
-use Rattle.replica_core.specs.Asks.{offers}
-use Rattle.replica_core.specs.Stepped.{Stepped, stepped, does, raft_behind}
+use Rattle.replica_model.specs.declared.packet.Place.{Place}
+use Rattle.replica_model.specs.declared.packet.Place.TheVariants as place
+use Rattle.replica_model.specs.declared.packet.Packet.{Packet}
+use Rattle.replica_model.specs.declared.packet.To.TheVariants as to
+use Rattle.replica_model.specs.declared.packet.Body.TheVariants as body
+use Rattle.replica_model.specs.declared.input.Input.TheVariants as input
+use Rattle.replica_model.specs.declared.input.Tick.TheVariants.{Elect}
+use Rattle.replica_model.specs.Letters.{used, is_about, packet_of, packets_of, then_works}
+use Rattle.replica_model.specs.Replica.{Home, Replica, created, no_senders, no_hints}
+use Rattle.replica_model.specs.Asks.{offers}
+use Rattle.replica_model.specs.Stepped.{Stepped, stepped, does, raft_behind}
 use Rattle.world_model.specs.declared.event.Event.{Event}
 use Rattle.world_model.specs.State.{home_of, Up, State, start}
 use Rattle.world_model.specs.After.{Doing, Noted, done, peer_moves, ledger_behind}

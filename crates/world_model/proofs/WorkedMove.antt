@@ -14,12 +14,12 @@ use Rattle.chain_leader.specs.declared.body.ChainBody.TheVariants as says
 use Rattle.chain_leader.specs.declared.letter.Letter.TheVariants.{Back, Again}
 use Rattle.chain_leader.specs.Leading.{on_item}
 use Rattle.chain_world.specs.Ledger.{remote_steps, ended_steps}
-use Rattle.replica_core.specs.declared.packet.Place.TheVariants as place
-use Rattle.replica_core.specs.declared.input.Input.{Input}
-use Rattle.replica_core.specs.declared.input.Input.TheVariants as input
-use Rattle.replica_core.specs.declared.input.Tick.TheVariants as tick
-use Rattle.replica_core.specs.Replica.{Replica, created, no_senders, no_hints}
-use Rattle.replica_core.specs.Stepped.{Stepped, stepped}
+use Rattle.replica_model.specs.declared.packet.Place.TheVariants as place
+use Rattle.replica_model.specs.declared.input.Input.{Input}
+use Rattle.replica_model.specs.declared.input.Input.TheVariants as input
+use Rattle.replica_model.specs.declared.input.Tick.TheVariants as tick
+use Rattle.replica_model.specs.Replica.{Replica, created, no_senders, no_hints}
+use Rattle.replica_model.specs.Stepped.{Stepped, stepped}
 use Rattle.world_model.specs.declared.event.Event.{Event}
 use Rattle.world_model.specs.State.{home_of, Up, State}
 use Rattle.world_model.specs.After.{Noted, done, peer_moves, ledger_behind, step_on}

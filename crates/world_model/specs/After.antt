@@ -8,12 +8,12 @@ use Rattle.part_keys.specs.declared.proposal.Proposal.{Proposal}
 use Rattle.chain_world.specs.Ledger.{Ledger, invokes, decides, replies}
 use Rattle.meta_parts.specs.declared.table.PartTable.{PartTable}
 use Rattle.meta_parts.specs.Table.{written}
-use Rattle.replica_core.specs.declared.packet.Packet.{Packet}
-use Rattle.replica_core.specs.declared.input.Input.{Input}
-use Rattle.replica_core.specs.declared.input.Input.TheVariants as input
-use Rattle.replica_core.specs.Spelling.{values_of}
-use Rattle.replica_core.specs.Replica.{Home, Replica, opened, created}
-use Rattle.replica_core.specs.Stepped.{Stepped, stepped}
+use Rattle.replica_model.specs.declared.packet.Packet.{Packet}
+use Rattle.replica_model.specs.declared.input.Input.{Input}
+use Rattle.replica_model.specs.declared.input.Input.TheVariants as input
+use Rattle.replica_model.specs.Spelling.{values_of}
+use Rattle.replica_model.specs.Replica.{Home, Replica, opened, created}
+use Rattle.replica_model.specs.Stepped.{Stepped, stepped}
 use Rattle.statement_run.specs.Statement.{Statement, Asked, parts_in}
 use Rattle.statement_run.specs.Caller.{next, Caller, Open, Due, queued, invoked, call_of, request_of, counted, rounded, hears, replied}
 use Rattle.world_model.specs.declared.event.Cause.TheVariants as cause

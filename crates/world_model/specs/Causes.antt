@@ -14,10 +14,10 @@ use Rattle.chain_world.specs.Answers.{WasAnswered, WasSeen}
 use Rattle.chain_world.specs.Causes.{Settles}
 use Rattle.chain_world.specs.Ledger.{Ledger}
 use Rattle.chain_world.specs.Places.{Among}
-use Rattle.replica_core.specs.declared.packet.To.TheVariants as to
-use Rattle.replica_core.specs.declared.packet.Body.TheVariants as body
-use Rattle.replica_core.specs.declared.input.Tick.{Tick}
-use Rattle.replica_core.specs.declared.input.Tick.TheVariants as tick
+use Rattle.replica_model.specs.declared.packet.To.TheVariants as to
+use Rattle.replica_model.specs.declared.packet.Body.TheVariants as body
+use Rattle.replica_model.specs.declared.input.Tick.{Tick}
+use Rattle.replica_model.specs.declared.input.Tick.TheVariants as tick
 use Rattle.world_model.specs.State.{Post, State}
 use Rattle.world_model.specs.Lawful.{MayReply}
 use Rattle.world_model.specs.declared.event.Cause.TheVariants as cause

@@ -25,16 +25,16 @@ use Rattle.chain_world.specs.declared.packet.ChainEnd.TheVariants as ends
 use Rattle.chain_world.specs.Ledger.{Ledger}
 use Rattle.chain_world.specs.State.{Chains, Leader, Client, made_by, packet_of, Post as ChainPost}
 use Rattle.chain_world.specs.World.{run, is_part, first_asked, request_of}
-use Rattle.replica_core.specs.declared.packet.Place.{Place}
-use Rattle.replica_core.specs.declared.packet.Place.TheVariants as place
-use Rattle.replica_core.specs.declared.packet.To.{To}
-use Rattle.replica_core.specs.declared.packet.To.TheVariants as to
-use Rattle.replica_core.specs.declared.packet.Body.{Body}
-use Rattle.replica_core.specs.declared.packet.Body.TheVariants as body
-use Rattle.replica_core.specs.declared.input.Input.{Input}
-use Rattle.replica_core.specs.declared.input.Input.TheVariants as input
-use Rattle.replica_core.specs.Spelling.{value_of, values_of}
-use Rattle.replica_core.specs.Replica.{Row, Replica}
+use Rattle.replica_model.specs.declared.packet.Place.{Place}
+use Rattle.replica_model.specs.declared.packet.Place.TheVariants as place
+use Rattle.replica_model.specs.declared.packet.To.{To}
+use Rattle.replica_model.specs.declared.packet.To.TheVariants as to
+use Rattle.replica_model.specs.declared.packet.Body.{Body}
+use Rattle.replica_model.specs.declared.packet.Body.TheVariants as body
+use Rattle.replica_model.specs.declared.input.Input.{Input}
+use Rattle.replica_model.specs.declared.input.Input.TheVariants as input
+use Rattle.replica_model.specs.Spelling.{value_of, values_of}
+use Rattle.replica_model.specs.Replica.{Row, Replica}
 use Rattle.statement_run.specs.Statement.{Running}
 use Rattle.statement_run.specs.Caller.{Caller, Open, Due}
 use Rattle.world_model.specs.State.{Space, Standing, Vacant, Up, Stopped, Down, Gone, Post, moment_in}

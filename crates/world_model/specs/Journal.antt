@@ -2,7 +2,7 @@
 use Rattle.std.specs.Prelude.{◌≡◌, ℕ, List, [], ◌∷◌, ◌++◌, map, Option, Some}
 use Rattle.graph_model.specs.declared.graph_step.GStep.{GStep}
 use Rattle.graph_model.specs.declared.graph_step.GStep.TheVariants as step
-use Rattle.replica_core.specs.declared.packet.Packet.{Packet}
+use Rattle.replica_model.specs.declared.packet.Packet.{Packet}
 use Rattle.part_keys.specs.Spelled.{Spelling}
 use Rattle.statement_run.specs.Caller.{nobody}
 use Rattle.world_model.specs.declared.event.Event.{Event}

@@ -17,8 +17,8 @@ use Rattle.chain_world.specs.World.{is_part, is_client, is_whole}
 use Rattle.meta_parts.specs.Table.{may_write, has_peer}
 use Rattle.meta_parts.specs.declared.table.MetaBody.{MetaBody}
 use Rattle.meta_parts.specs.declared.table.MetaBody.TheVariants as body
-use Rattle.replica_core.specs.Replica.{Home, Replica}
-use Rattle.replica_core.specs.Stepped.{stepped}
+use Rattle.replica_model.specs.Replica.{Home, Replica}
+use Rattle.replica_model.specs.Stepped.{stepped}
 use Rattle.statement_run.specs.Statement.{Asked}
 use Rattle.statement_run.specs.Caller.{Caller, Open, Due, next, owes}
 use Rattle.world_model.specs.declared.event.Cause.TheVariants as cause

@@ -1,9 +1,9 @@
 -- An event is about one core alone: the others stay as they are, and what is lawful for a core, and what it does, stays so
 -- where events of others came between. Worker threads, each with cores of its own, stand on this.
 use Rattle.std.specs.Prelude.{◌≡◌, ◌≢◌, ℕ, List, [], ◌∷◌, ◌++◌, map, slice_get, Option, None, Some}
-use Rattle.replica_core.specs.declared.packet.Packet.{Packet}
+use Rattle.replica_model.specs.declared.packet.Packet.{Packet}
 use Rattle.part_keys.specs.Spelled.{Spelling}
-use Rattle.replica_core.specs.Stepped.{Leaving}
+use Rattle.replica_model.specs.Stepped.{Leaving}
 use Rattle.world_model.specs.declared.event.Event.{Event}
 use Rattle.world_model.specs.declared.event.Event.TheVariants as event
 use Rattle.world_model.specs.State.{Space, home_of, Post, State, Site, AtClient, AtPeer, Nowhere}

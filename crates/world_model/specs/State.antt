@@ -6,13 +6,13 @@ use Rattle.part_keys.specs.declared.vid_kind.VidKind.{VidKind}
 use Rattle.chain_world.specs.Ledger.{Ledger, blank_ledger}
 use Rattle.meta_parts.specs.declared.table.PartTable.{PartTable}
 use Rattle.meta_parts.specs.Table.{boot, tried, parts_in, first_in}
-use Rattle.replica_core.specs.declared.packet.Packet.{Packet}
-use Rattle.replica_core.specs.declared.packet.To.{To}
-use Rattle.replica_core.specs.declared.packet.To.TheVariants as to
-use Rattle.replica_core.specs.declared.input.Input.{Input}
+use Rattle.replica_model.specs.declared.packet.Packet.{Packet}
+use Rattle.replica_model.specs.declared.packet.To.{To}
+use Rattle.replica_model.specs.declared.packet.To.TheVariants as to
+use Rattle.replica_model.specs.declared.input.Input.{Input}
 use Rattle.part_keys.specs.Spelled.{Spelling}
-use Rattle.replica_core.specs.Replica.{Home, Replica}
-use Rattle.replica_core.specs.Stepped.{Leaving}
+use Rattle.replica_model.specs.Replica.{Home, Replica}
+use Rattle.replica_model.specs.Stepped.{Leaving}
 use Rattle.statement_run.specs.Caller.{Caller, nobody}
 
 -- What doesn't change from the first replica's creation and the first call on: how many parts there are, the first

@@ -30,13 +30,13 @@ use Rattle.chain_world.specs.Ledger.{Ledger, with_list}
 use Rattle.meta_parts.specs.declared.table.MetaBody.TheVariants.{Allocate}
 use Rattle.meta_parts.specs.declared.table.PartRow.{PartRow}
 use Rattle.meta_parts.specs.declared.table.PartTable.{PartTable}
-use Rattle.replica_core.specs.declared.input.Tick.TheVariants.{Elect}
-use Rattle.replica_core.specs.declared.packet.Packet.{Packet}
-use Rattle.replica_core.specs.declared.packet.Place.{Place}
-use Rattle.replica_core.specs.declared.packet.Place.TheVariants as place
-use Rattle.replica_core.specs.declared.packet.To.TheVariants as to
-use Rattle.replica_core.specs.Letters.{packet_of}
-use Rattle.replica_core.specs.Replica.{Replica, created, no_senders, no_hints}
+use Rattle.replica_model.specs.declared.input.Tick.TheVariants.{Elect}
+use Rattle.replica_model.specs.declared.packet.Packet.{Packet}
+use Rattle.replica_model.specs.declared.packet.Place.{Place}
+use Rattle.replica_model.specs.declared.packet.Place.TheVariants as place
+use Rattle.replica_model.specs.declared.packet.To.TheVariants as to
+use Rattle.replica_model.specs.Letters.{packet_of}
+use Rattle.replica_model.specs.Replica.{Replica, created, no_senders, no_hints}
 use Rattle.statement_run.specs.Statement.{Statement, starting}
 use Rattle.statement_run.specs.Caller.{Caller, Open, nobody, request_of}
 use Rattle.world_model.specs.declared.event.Event.{Event}

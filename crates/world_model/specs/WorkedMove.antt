@@ -21,14 +21,14 @@ use Rattle.meta_parts.specs.declared.table.PartTable.{PartTable}
 use Rattle.meta_parts.specs.declared.table.Stage.{Stage}
 use Rattle.meta_parts.specs.declared.table.Stage.TheVariants as stage
 use Rattle.meta_parts.specs.declared.table.TaskRow.{TaskRow}
-use Rattle.replica_core.specs.declared.input.Tick.TheVariants.{Change, Transfer}
-use Rattle.replica_core.specs.declared.packet.Packet.{Packet}
-use Rattle.replica_core.specs.declared.packet.Place.{Place}
-use Rattle.replica_core.specs.declared.packet.Place.TheVariants as place
-use Rattle.replica_core.specs.declared.packet.To.TheVariants as to
-use Rattle.replica_core.specs.Letters.{packet_of}
-use Rattle.replica_core.specs.Replica.{Replica, fresh, created, no_senders}
-use Rattle.replica_core.specs.Stepped.{message_of}
+use Rattle.replica_model.specs.declared.input.Tick.TheVariants.{Change, Transfer}
+use Rattle.replica_model.specs.declared.packet.Packet.{Packet}
+use Rattle.replica_model.specs.declared.packet.Place.{Place}
+use Rattle.replica_model.specs.declared.packet.Place.TheVariants as place
+use Rattle.replica_model.specs.declared.packet.To.TheVariants as to
+use Rattle.replica_model.specs.Letters.{packet_of}
+use Rattle.replica_model.specs.Replica.{Replica, fresh, created, no_senders}
+use Rattle.replica_model.specs.Stepped.{message_of}
 use Rattle.world_model.specs.declared.event.Event.{Event}
 use Rattle.world_model.specs.declared.event.Event.TheVariants as event
 use Rattle.world_model.specs.State.{Up, Gone, State, start, AtPeer, resolve}

@@ -2,7 +2,7 @@
 use graph_model::{Answer, CallId, Op};
 use meta_parts::MetaBody;
 use raft_log::Config;
-use replica_core::Tick;
+use replica_model::Tick;
 
 /// What a replica was about when it stopped: a tick, or the packet of that number.
 #[derive(Drop)]

@@ -16,7 +16,7 @@
 //! agrees; parts whose lists are decided so are a world of chains (`chain_world`), whose steps are a graph run. With each run
 //! of the world go a run of each part's group and one of the chains, and each event moves them by some events of theirs.
 //!
-//! Below are `replica_core`, `statement_run` and `meta_parts`, one replica, one client and the table; above is the cluster that
+//! Below are `replica_model`, `statement_run` and `meta_parts`, one replica, one client and the table; above is the cluster that
 //! shows a world.
 #![tactic(auto)]
 

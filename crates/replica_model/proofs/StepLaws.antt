@@ -14,17 +14,17 @@ use Rattle.raft_core.specs.Rounds.{confirmed_of}
 use Rattle.raft_core.proofs.StepLaws.{kept_is_all}
 use Rattle.raft_core.proofs.Lists.{all_both, all_weaker, all_of-map, all_through-map, all_of-filter}
 use Rattle.chain_leader.specs.Leading.{Leading, read}
-use Rattle.replica_core.specs.declared.packet.Place.{Place}
-use Rattle.replica_core.specs.declared.packet.Packet.{Packet}
-use Rattle.replica_core.specs.declared.input.Input.{Input}
-use Rattle.replica_core.specs.Spelling.{values_of}
-use Rattle.replica_core.specs.Replica.{Home, Row, Replica, machine_of, leads}
-use Rattle.replica_core.specs.Asks.{Asks, Nothing, Refuses, Points, Leads, Raft, Reads, asks}
-use Rattle.replica_core.specs.Letters.{packets_of}
-use Rattle.replica_core.specs.Stepped.{Leaving, leaving, Viewed, policy_behind, led_by, led_of, leads_on, keeps_rows, row_with, rows_with, is_confirmed, answer_row, message_of, works_at, refusal_to, raft_step, does, stepped}
-use Rattle.replica_core.specs.Laws.{tells_view, HaveRounds, AnswersRow, WaitedFor, AnswersConfirmed, KeepsRounds, DropsRows, IsNoRemote, IsNoFence}
-use Rattle.replica_core.proofs.Letters.{IsOfRules, again_of_rules, TellsNone, IsPlain, rules_told, Works, of_works}
-use Rattle.replica_core.proofs.Founded.{Founded, founded}
+use Rattle.replica_model.specs.declared.packet.Place.{Place}
+use Rattle.replica_model.specs.declared.packet.Packet.{Packet}
+use Rattle.replica_model.specs.declared.input.Input.{Input}
+use Rattle.replica_model.specs.Spelling.{values_of}
+use Rattle.replica_model.specs.Replica.{Home, Row, Replica, machine_of, leads}
+use Rattle.replica_model.specs.Asks.{Asks, Nothing, Refuses, Points, Leads, Raft, Reads, asks}
+use Rattle.replica_model.specs.Letters.{packets_of}
+use Rattle.replica_model.specs.Stepped.{Leaving, leaving, Viewed, policy_behind, led_by, led_of, leads_on, keeps_rows, row_with, rows_with, is_confirmed, answer_row, message_of, works_at, refusal_to, raft_step, does, stepped}
+use Rattle.replica_model.specs.Laws.{tells_view, HaveRounds, AnswersRow, WaitedFor, AnswersConfirmed, KeepsRounds, DropsRows, IsNoRemote, IsNoFence}
+use Rattle.replica_model.proofs.Letters.{IsOfRules, again_of_rules, TellsNone, IsPlain, rules_told, Works, of_works}
+use Rattle.replica_model.proofs.Founded.{Founded, founded}
 
 module _ (home : Home) (r : Replica) (i : Input) where
   one_record_of : (a : Asks) → IsPeer r.core → durable (does home r i a).replica.core ≡ kept (durable r.core) (does home r i a).kept

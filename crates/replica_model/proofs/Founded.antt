@@ -9,17 +9,17 @@ use Rattle.part_keys.specs.declared.entry.PartEntry.{PartEntry}
 use Rattle.chain_leader.specs.declared.body.About.{About}
 use Rattle.chain_leader.specs.declared.body.ChainBody.{ChainBody}
 use Rattle.chain_leader.specs.Leading.{Taken, taken, given_up}
-use Rattle.replica_core.specs.declared.packet.Place.{Place}
-use Rattle.replica_core.specs.declared.packet.Place.TheVariants as place
-use Rattle.replica_core.specs.declared.packet.Body.{Body}
-use Rattle.replica_core.specs.declared.packet.Body.TheVariants as body
-use Rattle.replica_core.specs.declared.input.Tick.{Tick}
-use Rattle.replica_core.specs.declared.input.Tick.TheVariants as tick
-use Rattle.replica_core.specs.declared.input.Input.{Input}
-use Rattle.replica_core.specs.declared.input.Input.TheVariants as input
-use Rattle.replica_core.specs.Replica.{Home, Replica, machine_of, leads}
-use Rattle.replica_core.specs.Asks.{Asks, Nothing, Refuses, Points, Leads, Raft, Reads, Hint, Reading, proposes, offers_all, asks_tick, may_hear, asks_message, is_sender, part_from, about_in, refuses, hint_in, read_in, may_read, kept_sender, takes, asks_leader, asks_body, asks}
-use Rattle.replica_core.proofs.Letters.{OfRules, of_taken, of_given_up}
+use Rattle.replica_model.specs.declared.packet.Place.{Place}
+use Rattle.replica_model.specs.declared.packet.Place.TheVariants as place
+use Rattle.replica_model.specs.declared.packet.Body.{Body}
+use Rattle.replica_model.specs.declared.packet.Body.TheVariants as body
+use Rattle.replica_model.specs.declared.input.Tick.{Tick}
+use Rattle.replica_model.specs.declared.input.Tick.TheVariants as tick
+use Rattle.replica_model.specs.declared.input.Input.{Input}
+use Rattle.replica_model.specs.declared.input.Input.TheVariants as input
+use Rattle.replica_model.specs.Replica.{Home, Replica, machine_of, leads}
+use Rattle.replica_model.specs.Asks.{Asks, Nothing, Refuses, Points, Leads, Raft, Reads, Hint, Reading, proposes, offers_all, asks_tick, may_hear, asks_message, is_sender, part_from, about_in, refuses, hint_in, read_in, may_read, kept_sender, takes, asks_leader, asks_body, asks}
+use Rattle.replica_model.proofs.Letters.{OfRules, of_taken, of_given_up}
 
 abbrev pub Founded : Replica → Asks → Type 0
 Founded r (Leads tk) = OfRules tk.letters

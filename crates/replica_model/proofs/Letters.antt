@@ -36,15 +36,15 @@ use Rattle.chain_leader.specs.declared.letter.Letter.TheVariants.{Tell, Cross, B
 use Rattle.chain_leader.specs.Calls.{is_write, call_in, kept_answer, answer_of}
 use Rattle.chain_leader.specs.Rules.{Table, on_primed, resume}
 use Rattle.chain_leader.specs.Leading.{Leading, Taken, proposing, number_in, sends_by, sends, standing_behind, resumes_all, onward, taken, told, reply_to, back_of, chain_in, forgetting, begins, ruled_by, started, on_item, on_item_by, given_up}
-use Rattle.replica_core.specs.declared.packet.Place.{Place}
-use Rattle.replica_core.specs.declared.packet.Packet.{Packet}
-use Rattle.replica_core.specs.declared.input.Input.{Input}
-use Rattle.replica_core.specs.declared.input.Input.TheVariants as input
-use Rattle.replica_core.specs.declared.input.Tick.TheVariants as tick
-use Rattle.replica_core.specs.Replica.{Home}
-use Rattle.replica_core.specs.Letters.{is_about, addressed, packets_of, Worked, works}
-use Rattle.replica_core.specs.Stepped.{again_of}
-use Rattle.replica_core.specs.Laws.{is_view, tells, tells_view, writes_of, is_of_chain}
+use Rattle.replica_model.specs.declared.packet.Place.{Place}
+use Rattle.replica_model.specs.declared.packet.Packet.{Packet}
+use Rattle.replica_model.specs.declared.input.Input.{Input}
+use Rattle.replica_model.specs.declared.input.Input.TheVariants as input
+use Rattle.replica_model.specs.declared.input.Tick.TheVariants as tick
+use Rattle.replica_model.specs.Replica.{Home}
+use Rattle.replica_model.specs.Letters.{is_about, addressed, packets_of, Worked, works}
+use Rattle.replica_model.specs.Stepped.{again_of}
+use Rattle.replica_model.specs.Laws.{is_view, tells, tells_view, writes_of, is_of_chain}
 
 -- a letter of the rules is a chain's, or a further Resume
 abbrev pub is_rules : Letter → Bool

@@ -15,17 +15,17 @@ use Rattle.chain_leader.specs.declared.letter.Letter.{Letter}
 use Rattle.chain_leader.specs.declared.letter.Letter.TheVariants.{Tell, Cross, Back, Again as AgainTo}
 use Rattle.chain_leader.specs.Rules.{Table}
 use Rattle.chain_leader.specs.Leading.{Leading, read}
-use Rattle.replica_core.specs.declared.packet.Place.{Place}
-use Rattle.replica_core.specs.declared.packet.Packet.{Packet}
-use Rattle.replica_core.specs.declared.input.Input.{Input}
-use Rattle.replica_core.specs.Replica.{Home, Row, Replica, machine_of}
-use Rattle.replica_core.specs.Asks.{Asks, Nothing, Refuses, Points, Leads, Raft, Reads, asks}
-use Rattle.replica_core.specs.Letters.{chain_of, addressed, packets_of, is_about, used}
-use Rattle.replica_core.specs.Stepped.{Leaving, leaving, Viewed, policy_behind, led_by, led_of, leads_on, is_confirmed, answer_row, message_of, raft_step, does, stepped}
-use Rattle.replica_core.specs.Laws.{writes_of, is_of_chain, KeepsHints, UsesHints, HintsGo}
-use Rattle.replica_core.proofs.Letters.{IsOfRules, OfRules, IsOfNone, of_again, again_of_rules, IsPlain}
-use Rattle.replica_core.proofs.Founded.{Founded, founded}
-use Rattle.replica_core.proofs.StepLaws.{all_two, of_work}
+use Rattle.replica_model.specs.declared.packet.Place.{Place}
+use Rattle.replica_model.specs.declared.packet.Packet.{Packet}
+use Rattle.replica_model.specs.declared.input.Input.{Input}
+use Rattle.replica_model.specs.Replica.{Home, Row, Replica, machine_of}
+use Rattle.replica_model.specs.Asks.{Asks, Nothing, Refuses, Points, Leads, Raft, Reads, asks}
+use Rattle.replica_model.specs.Letters.{chain_of, addressed, packets_of, is_about, used}
+use Rattle.replica_model.specs.Stepped.{Leaving, leaving, Viewed, policy_behind, led_by, led_of, leads_on, is_confirmed, answer_row, message_of, raft_step, does, stepped}
+use Rattle.replica_model.specs.Laws.{writes_of, is_of_chain, KeepsHints, UsesHints, HintsGo}
+use Rattle.replica_model.proofs.Letters.{IsOfRules, OfRules, IsOfNone, of_again, again_of_rules, IsPlain}
+use Rattle.replica_model.proofs.Founded.{Founded, founded}
+use Rattle.replica_model.proofs.StepLaws.{all_two, of_work}
 
 -- the words
 pub hints_go : (hints : ℕ → ℕ) (table : Table) (letters : List Letter) → HintsGo hints table letters

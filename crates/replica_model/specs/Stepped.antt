@@ -16,18 +16,18 @@ use Rattle.chain_leader.specs.declared.body.About.{About}
 use Rattle.chain_leader.specs.declared.body.ChainBody.TheVariants as says
 use Rattle.chain_leader.specs.declared.letter.Letter.{Letter}
 use Rattle.chain_leader.specs.Leading.{Leading, Taken, idle, read, pulsed}
-use Rattle.replica_core.specs.declared.packet.Place.{Place}
-use Rattle.replica_core.specs.declared.packet.Place.TheVariants as place
-use Rattle.replica_core.specs.declared.packet.To.TheVariants as to
-use Rattle.replica_core.specs.declared.packet.Body.TheVariants as body
-use Rattle.replica_core.specs.declared.packet.Packet.{Packet}
-use Rattle.replica_core.specs.declared.input.Tick.TheVariants as tick
-use Rattle.replica_core.specs.declared.input.Input.{Input}
-use Rattle.replica_core.specs.declared.input.Input.TheVariants as input
-use Rattle.replica_core.specs.Spelling.{values_of}
-use Rattle.replica_core.specs.Replica.{Home, Row, Replica, no_senders, no_hints, machine_of}
-use Rattle.replica_core.specs.Asks.{Asks, Nothing, Refuses, Points, Leads, Raft, Reads, asks}
-use Rattle.replica_core.specs.Letters.{Worked, to_place, packet_of, packets_of, used, works}
+use Rattle.replica_model.specs.declared.packet.Place.{Place}
+use Rattle.replica_model.specs.declared.packet.Place.TheVariants as place
+use Rattle.replica_model.specs.declared.packet.To.TheVariants as to
+use Rattle.replica_model.specs.declared.packet.Body.TheVariants as body
+use Rattle.replica_model.specs.declared.packet.Packet.{Packet}
+use Rattle.replica_model.specs.declared.input.Tick.TheVariants as tick
+use Rattle.replica_model.specs.declared.input.Input.{Input}
+use Rattle.replica_model.specs.declared.input.Input.TheVariants as input
+use Rattle.replica_model.specs.Spelling.{values_of}
+use Rattle.replica_model.specs.Replica.{Home, Row, Replica, no_senders, no_hints, machine_of}
+use Rattle.replica_model.specs.Asks.{Asks, Nothing, Refuses, Points, Leads, Raft, Reads, asks}
+use Rattle.replica_model.specs.Letters.{Worked, to_place, packet_of, packets_of, used, works}
 
 -- a packet that leaves, and the round of the row that it answers, 0 where it answers none
 pub record Leaving : Type 0 where

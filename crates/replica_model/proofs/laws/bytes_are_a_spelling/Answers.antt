@@ -2,9 +2,9 @@ use Rattle.std.proofs.Common.{Result, ap}
 use Rattle.byte_fields.specs.declared.misfit.Misfit.{Misfit}
 use Rattle.part_keys.specs.declared.entry.PartEntry.{PartEntry}
 use Rattle.part_keys.specs.Spelling.{form_of}
-use Rattle.replica_core.specs.Bytes.{what_fits}
-use Rattle.replica_core.proofs.Told.{is_spelled, no_other}
-use Rattle.replica_core.proofs.laws.bytes_are_a_spelling.Goals as goal
+use Rattle.replica_model.specs.Bytes.{what_fits}
+use Rattle.replica_model.proofs.Told.{is_spelled, no_other}
+use Rattle.replica_model.proofs.laws.bytes_are_a_spelling.Goals as goal
 
 pub returns-clause-spelled : goal.returns-clause-spelled
 returns-clause-spelled c = λ version e fits. is_spelled (form_of version) e fits

@@ -5,12 +5,12 @@ ghost use Rattle.chain_leader.specs.Rules.{Table};
 ghost use Rattle.raft_core.specs.Core.{Core};
 ghost use Rattle.raft_core.specs.Durable.{durable, kept};
 ghost use Rattle.raft_core.specs.Laws.{IsPeer};
-ghost use Rattle.replica_core.specs.declared.input.Input.{Input};
-ghost use Rattle.replica_core.specs.Replica.{Home, Replica, fresh};
-ghost use Rattle.replica_core.specs.Stepped.{stepped};
-ghost use Rattle.replica_core.specs.Laws.{HaveRounds, AnswersConfirmed, KeepsRounds, DropsRows, HintsStand, KeepsHints, UsesHints, HintsGo, IsNoRemote, IsNoFence};
-ghost use Rattle.replica_core.specs.Bytes.{BytesAreSpelled, NothingElseIsSpelled, EntriesAreRead, NothingElseIsRead};
-ghost use Rattle.replica_core.specs.Worked.{IsNoPayload, IsOfNoPart, IsTurnedAway, IsFromNoPeer};
+ghost use Rattle.replica_model.specs.declared.input.Input.{Input};
+ghost use Rattle.replica_model.specs.Replica.{Home, Replica, fresh};
+ghost use Rattle.replica_model.specs.Stepped.{stepped};
+ghost use Rattle.replica_model.specs.Laws.{HaveRounds, AnswersConfirmed, KeepsRounds, DropsRows, HintsStand, KeepsHints, UsesHints, HintsGo, IsNoRemote, IsNoFence};
+ghost use Rattle.replica_model.specs.Bytes.{BytesAreSpelled, NothingElseIsSpelled, EntriesAreRead, NothingElseIsRead};
+ghost use Rattle.replica_model.specs.Worked.{IsNoPayload, IsOfNoPart, IsTurnedAway, IsFromNoPeer};
 
 /// Term, vote and log behind a step are those before it, changed by the step's one record, and the same where it has none:
 /// what a replica promised, it has made durable.

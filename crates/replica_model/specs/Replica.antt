@@ -14,9 +14,9 @@ use Rattle.part_keys.specs.declared.vid_kind.VidKind.{VidKind}
 use Rattle.part_rules.specs.Part.{Part}
 use Rattle.part_rules.specs.Folded.{folded}
 use Rattle.chain_leader.specs.Leading.{Leading, idle}
-use Rattle.replica_core.specs.declared.packet.Place.{Place}
+use Rattle.replica_model.specs.declared.packet.Place.{Place}
 use Rattle.part_keys.specs.Spelled.{Spelling}
-use Rattle.replica_core.specs.Spelling.{values_of}
+use Rattle.replica_model.specs.Spelling.{values_of}
 
 -- where a replica belongs: its part, how many parts there are, of which kind the space's ids are, and how entries are spelled
 pub record Home : Type 0 where

@@ -17,16 +17,16 @@ use Rattle.part_rules.specs.Worked.{both, call}
 use Rattle.chain_leader.specs.declared.body.About.TheVariants as about
 use Rattle.chain_leader.specs.declared.body.ChainBody.{ChainBody}
 use Rattle.chain_leader.specs.declared.body.ChainBody.TheVariants as says
-use Rattle.replica_core.specs.declared.packet.Place.{Place}
-use Rattle.replica_core.specs.declared.packet.Place.TheVariants as place
-use Rattle.replica_core.specs.declared.packet.To.TheVariants as to
-use Rattle.replica_core.specs.declared.packet.Body.{Body}
-use Rattle.replica_core.specs.declared.packet.Body.TheVariants as body
-use Rattle.replica_core.specs.declared.input.Input.{Input}
-use Rattle.replica_core.specs.declared.input.Input.TheVariants as input
+use Rattle.replica_model.specs.declared.packet.Place.{Place}
+use Rattle.replica_model.specs.declared.packet.Place.TheVariants as place
+use Rattle.replica_model.specs.declared.packet.To.TheVariants as to
+use Rattle.replica_model.specs.declared.packet.Body.{Body}
+use Rattle.replica_model.specs.declared.packet.Body.TheVariants as body
+use Rattle.replica_model.specs.declared.input.Input.{Input}
+use Rattle.replica_model.specs.declared.input.Input.TheVariants as input
 use Rattle.part_keys.specs.Spelled.{Spelling}
-use Rattle.replica_core.specs.Replica.{Home, Replica, created}
-use Rattle.replica_core.specs.Asks.{Nothing, Refuses, Raft, asks}
+use Rattle.replica_model.specs.Replica.{Home, Replica, created}
+use Rattle.replica_model.specs.Asks.{Nothing, Refuses, Raft, asks}
 
 -- a spelling by which any bytes spell this entry
 abbrev pub spells : PartEntry → Spelling

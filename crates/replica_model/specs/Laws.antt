@@ -12,16 +12,16 @@ use Rattle.chain_leader.specs.declared.body.ChainBody.{ChainBody}
 use Rattle.chain_leader.specs.declared.body.ChainBody.TheVariants as says
 use Rattle.chain_leader.specs.declared.letter.Letter.{Letter}
 use Rattle.chain_leader.specs.Rules.{Table}
-use Rattle.replica_core.specs.declared.packet.Place.TheVariants as place
-use Rattle.replica_core.specs.declared.packet.To.{To}
-use Rattle.replica_core.specs.declared.packet.Body.{Body}
-use Rattle.replica_core.specs.declared.packet.Body.TheVariants as body
-use Rattle.replica_core.specs.declared.input.Input.{Input}
-use Rattle.replica_core.specs.declared.input.Input.TheVariants as input
-use Rattle.replica_core.specs.Replica.{Home, Row, Replica}
-use Rattle.replica_core.specs.Asks.{Nothing, asks}
-use Rattle.replica_core.specs.Letters.{is_about, used}
-use Rattle.replica_core.specs.Stepped.{Leaving, Stepped, keeps_rows, answer_row}
+use Rattle.replica_model.specs.declared.packet.Place.TheVariants as place
+use Rattle.replica_model.specs.declared.packet.To.{To}
+use Rattle.replica_model.specs.declared.packet.Body.{Body}
+use Rattle.replica_model.specs.declared.packet.Body.TheVariants as body
+use Rattle.replica_model.specs.declared.input.Input.{Input}
+use Rattle.replica_model.specs.declared.input.Input.TheVariants as input
+use Rattle.replica_model.specs.Replica.{Home, Row, Replica}
+use Rattle.replica_model.specs.Asks.{Nothing, asks}
+use Rattle.replica_model.specs.Letters.{is_about, used}
+use Rattle.replica_model.specs.Stepped.{Leaving, Stepped, keeps_rows, answer_row}
 
 -- whether a packet tells what a read found
 abbrev pub is_view : Answer → Bool

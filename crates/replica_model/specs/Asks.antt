@@ -22,17 +22,17 @@ use Rattle.chain_leader.specs.declared.body.ChainBody.{ChainBody}
 use Rattle.chain_leader.specs.declared.body.ChainBody.TheVariants as says
 use Rattle.chain_leader.specs.Calls.{call_in}
 use Rattle.chain_leader.specs.Leading.{Leading, Taken, taken, given_up}
-use Rattle.replica_core.specs.declared.packet.Place.{Place}
-use Rattle.replica_core.specs.declared.packet.Place.TheVariants as place
-use Rattle.replica_core.specs.declared.packet.Body.{Body}
-use Rattle.replica_core.specs.declared.packet.Body.TheVariants as body
-use Rattle.replica_core.specs.declared.input.Tick.{Tick}
-use Rattle.replica_core.specs.declared.input.Tick.TheVariants as tick
-use Rattle.replica_core.specs.declared.input.Input.{Input}
-use Rattle.replica_core.specs.declared.input.Input.TheVariants as input
+use Rattle.replica_model.specs.declared.packet.Place.{Place}
+use Rattle.replica_model.specs.declared.packet.Place.TheVariants as place
+use Rattle.replica_model.specs.declared.packet.Body.{Body}
+use Rattle.replica_model.specs.declared.packet.Body.TheVariants as body
+use Rattle.replica_model.specs.declared.input.Tick.{Tick}
+use Rattle.replica_model.specs.declared.input.Tick.TheVariants as tick
+use Rattle.replica_model.specs.declared.input.Input.{Input}
+use Rattle.replica_model.specs.declared.input.Input.TheVariants as input
 use Rattle.part_keys.specs.Spelled.{Spelling}
-use Rattle.replica_core.specs.Spelling.{value_of}
-use Rattle.replica_core.specs.Replica.{Home, Replica, machine_of, leads, waits}
+use Rattle.replica_model.specs.Spelling.{value_of}
+use Rattle.replica_model.specs.Replica.{Home, Replica, machine_of, leads, waits}
 
 -- What an input asks for: nothing; that its sender is told who may lead; that a chain's hint is set; the leader's rules alone;
 -- a step of the Raft peer, with what it then keeps as the leader that it is, and the sender of what it proposes, where one is

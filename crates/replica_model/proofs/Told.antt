@@ -6,7 +6,7 @@ use Rattle.part_keys.specs.declared.entry.PartEntry.{PartEntry}
 use Rattle.part_keys.specs.Fits.{Fits}
 use Rattle.part_keys.specs.Spelling.{entry}
 use Rattle.part_keys.proofs.Deciding.{dec_entry}
-use Rattle.replica_core.specs.Bytes.{bytes_where, bytes_of}
+use Rattle.replica_model.specs.Bytes.{bytes_where, bytes_of}
 
 spelled_where : {A : Type 0} (is : Dec A) (bytes : List ℕ) → A → bytes_where is bytes ≡ Some bytes
 spelled_where (yes holds) bytes a = refl

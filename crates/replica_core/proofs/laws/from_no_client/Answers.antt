@@ -1,5 +1,0 @@
-use Rattle.replica_core.proofs.StepLaws as laws
-use Rattle.replica_core.proofs.laws.from_no_client.Goals as goal
-
-pub returns : goal.returns
-returns c = record { remote = laws.no_remote; fence = laws.no_fence }

@@ -1,5 +1,0 @@
-use Rattle.replica_core.proofs.StepLaws as laws
-use Rattle.replica_core.proofs.laws.rows_are_dropped.Goals as goal
-
-pub returns : goal.returns
-returns c = laws.rows_are_dropped
