@@ -10,7 +10,7 @@
 //! knows what they mean.
 //!
 //! `entries` of `specs/Spelling` and `entries_at` of `specs/Reading` are those of packets too, with
-//! [`put_entries`], [`read_entries`] and [`read_counted`].
+//! [`put_entries`], [`read_entries`] and [`read_counted`]. A file's log is read entry by entry, with [`read_entry`].
 //!
 //! Below it are `raft_log` and `byte_fields`; above it are the file itself and its replica.
 #![tactic(auto)]
@@ -19,6 +19,6 @@ mod reading;
 mod refused;
 mod writing;
 
-pub use reading::{decode, one_spelling, read_counted, read_entries};
+pub use reading::{decode, one_spelling, read_counted, read_entries, read_entry};
 pub use refused::FrameRefused;
 pub use writing::{encode, put_entries};

@@ -81,8 +81,9 @@ fn read_item(alloc: Global, bytes: &[u8]) -> Result<Item, ReadRefused>
     }
 }
 
+/// An entry, and the bytes after it. Refused at the first field that doesn't fit, or for want of memory.
 #[tactic(auto, unfolding(crate::specs::Reading::entry_at, byte_fields::specs::Reading::inside))]
-fn read_entry(alloc: Global, bytes: &[u8]) -> Result<(Entry, &[u8]), ReadRefused>
+pub fn read_entry(alloc: Global, bytes: &[u8]) -> Result<(Entry, &[u8]), ReadRefused>
     ensures { Gives (λ x. (x.0, x.1.now)) result (entry_at bytes.now) }
 {
     let (term, rest) = read_u64(bytes)?;
