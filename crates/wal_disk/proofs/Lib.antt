@@ -1,5 +1,5 @@
 mod Append
 mod Crash
 mod Fronts
-mod Readings
+pub mod Readings
 mod Tears

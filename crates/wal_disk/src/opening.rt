@@ -1,10 +1,10 @@
 //! A new file, and the records of one that is there.
-ghost use Rattle.std.specs.Prelude.{◌≡◌, [], ◌∷◌, ◌++◌, ℕ, List, IfOk, IfErr, OnOk, Some, is_some};
+ghost use Rattle.std.specs.Prelude.{◌≡◌, [], ◌∷◌, ◌++◌, ℕ, List, length, IfOk, IfErr, OnOk, Some, is_some};
 ghost use Rattle.disk_model.specs.Disk.{LeavesOnly, SameImages};
 ghost use Rattle.byte_fields.specs.Frames.{closed_gate};
 ghost use Rattle.byte_fields.specs.Versions.{IsVersion};
 ghost use Rattle.wal_disk.specs.Cause.{HasCause, NeverBad};
-ghost use Rattle.wal_disk.specs.File.{magic};
+ghost use Rattle.wal_disk.specs.File.{magic, front};
 ghost use Rattle.wal_disk.specs.Sound.{IsSound, IsBadIn};
 ghost use Rattle.wal_disk.specs.declared.refused.OpenWhy.TheVariants as why;
 
@@ -46,6 +46,7 @@ pub(crate) fn write_new<D: Disk>(alloc: Global, disk: &mut D, version: u8) -> Re
 /// Reads the records of a file that a crash may have left. What is read is on the disk first.
 pub(crate) fn read_all<D: Disk>(alloc: Global, disk: &mut D) -> Result<Records, OpenWhy>
     ensures ok { IfOk result (λ found. IsSound D.reads D.may_leave found.version found.bodies (disk.new, found.gate)) }
+    ensures place { IfOk result (λ found. found.gate ≡ length (front found.version found.bodies)) }
     ensures reads { D.reads disk.new ≡ D.reads disk.old }
     ensures any_moment { LeavesOnly D.clock D.left_since disk.old disk.new (D.may_leave disk.old) }
     ensures faults { OnOk result (D.faults disk.new ≡ D.faults disk.old) }
