@@ -21,4 +21,4 @@ mod writing;
 
 pub use reading::{decode, one_spelling, read_counted, read_entries, read_entry};
 pub use refused::FrameRefused;
-pub use writing::{encode, put_entries};
+pub use writing::{encode, entries_room, put_entries};

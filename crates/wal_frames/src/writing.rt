@@ -65,6 +65,26 @@ fn put_each(out: &mut Writer, list: &[Entry]) -> Result<(), NoMemory>
     Ok(())
 }
 
+// How many bytes an item takes at most: members are at most eight peers.
+fn item_room(held: &Item) -> usize {
+    match held {
+        Item::NoOp => 1,
+        Item::Members(_) => 35,
+        Item::Payload(bytes) => bytes.len().saturating_add(1),
+    }
+}
+
+/// How many bytes entries take at most, behind their count. It is no promise: a writer that needs more takes more.
+pub fn entries_room(list: &Entries) -> usize {
+    let mut room: usize = 4;
+    for made in list.as_slice() {
+        room = room
+            .saturating_add(item_room(&made.item))
+            .saturating_add(12);
+    }
+    room
+}
+
 /// Puts entries behind their count. Refused for want of memory, and for a number of entries or a length of an item that
 /// doesn't fit 4 bytes; some of them may stand then. Entries that were put have a spelling that `read_entries` reads again.
 pub fn put_entries(out: &mut Writer, list: &Entries) -> Result<(), NoMemory>
@@ -97,7 +117,7 @@ pub fn encode(alloc: Global, made: &Record) -> Result<Frame, NoMemory>
     ensures ok { IfOk result (λ frame. IsFrame (body made.now) frame) }
     ensures fits { OnOk result (FitsRecord made.now) }
 {
-    let mut out = Writer::new(alloc);
+    let mut out = Writer::with_room(alloc, entries_room(&made.entries).saturating_add(25))?;
     out.put_u32(0)?;
     put_body(&mut out, made)?;
     out.fill_length(0)?;
