@@ -1,5 +1,5 @@
 //! A new file, and the records of one that is there.
-ghost use Rattle.std.specs.Prelude.{◌≡◌, [], ◌∷◌, ◌++◌, ℕ, List, length, IfOk, IfErr, OnOk, Some, is_some};
+ghost use Rattle.std.specs.Prelude.{◌≡◌, ◌≤◌, ◌+◌, [], ◌∷◌, ◌++◌, ℕ, List, length, IfOk, IfErr, OnOk, Some, is_some};
 ghost use Rattle.disk_model.specs.Disk.{LeavesOnly, SameImages};
 ghost use Rattle.byte_fields.specs.Frames.{closed_gate};
 ghost use Rattle.byte_fields.specs.Versions.{IsVersion};
@@ -31,6 +31,7 @@ pub(crate) fn write_new<D: Disk>(alloc: Global, disk: &mut D, version: u8) -> Re
     requires { IsVersion version }
     ensures ok { OnOk result (IsSound D.reads D.may_leave version [] (disk.new, 4)) }
     ensures told { is_some (D.reads disk.new) ≡ is_some (D.reads disk.old) }
+    ensures room { OnOk result ((D.room_calls disk.old ≤ D.room_calls disk.new + 3) × (D.room_bytes disk.old ≤ D.room_bytes disk.new + 5)) }
     ensures faults { OnOk result (D.faults disk.new ≡ D.faults disk.old) }
     ensures cause { IfErr result (HasCause NeverBad (D.faults disk.old) (D.faults disk.new)) }
     ensures no_memory { IfErr result (λ e. e ≡ why.NoMemory → D.reads disk.new ≡ D.reads disk.old) }

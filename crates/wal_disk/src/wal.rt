@@ -47,12 +47,13 @@ pub struct Recovered<D> {
 }
 
 impl<D: Disk> Wal<D> {
-    /// Makes the disk's file new, of this version and without a record. A refusal hands the disk back: for want of memory as it was, and
+    /// Makes the disk's file new, of this version and without a record, by three calls and five written bytes. A refusal hands the disk back: for want of memory as it was, and
     /// else with a file that is made again. A crash in this call leaves a file without promise.
     pub fn create(alloc: Global, disk: D, version: u8) -> Result<Wal<D>, WalRefused<D>>
         requires { IsVersion version }
         ensures ok { IfOk result (λ wal. IsSound D.reads D.may_leave version [] wal) }
         ensures told { IfOk result (λ wal. is_some (D.reads wal.0) ≡ is_some (D.reads disk)) }
+        ensures room { IfOk result (λ wal. (D.room_calls disk ≤ D.room_calls wal.0 + 3) × (D.room_bytes disk ≤ D.room_bytes wal.0 + 5)) }
         ensures faults { IfOk result (λ wal. D.faults wal.0 ≡ D.faults disk) }
         ensures cause { IfErr result (λ e. HasCause NeverBad (D.faults disk) (D.faults e.disk) e.why) }
         ensures handed_back { IfErr result (λ e. is_some (D.reads e.disk) ≡ is_some (D.reads disk)) }
