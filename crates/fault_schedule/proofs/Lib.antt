@@ -1,0 +1,4 @@
+mod DrawingLemmas
+mod FieldLemmas
+mod LineLemmas
+mod ReadingLemmas

@@ -1,0 +1,5 @@
+pub mod Words
+pub mod Spelling
+pub mod Fields
+pub mod Reading
+pub mod Drawing
