@@ -10,10 +10,12 @@ use Rattle.wal_disk.specs.Sound.{IsSettled}
 use Rattle.wal_disk.specs.Torn.{IsTornFrom}
 use Rattle.wal_disk.proofs.Crash.{torn_behind, written_behind, torn_gate, gate_inside, place_after, written_gate, records_after}
 
+-- what holds of all that is told holds of the file that is told
 pub at_some : (told : Option (List ℕ)) (P : List ℕ → Type 0) (file : List ℕ) → told ≡ Some file → IfSome told P → P file
 at_some None P file is holds = absurd (none-some file is)
 at_some (Some other) P file is holds = subst P (same_Some other file is) holds
 
+-- what holds of each file that is told holds of what is told
 pub if_some : (told : Option (List ℕ)) (P : List ℕ → Type 0) → ((file : List ℕ) → told ≡ Some file → P file) → IfSome told P
 if_some None P each = tt
 if_some (Some file) P each = each file refl

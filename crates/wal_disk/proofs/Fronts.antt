@@ -7,6 +7,7 @@ use Rattle.byte_fields.specs.Versions.{IsVersion}
 use Rattle.byte_fields.specs.Frames.{HasFrame, sized, open_gate}
 use Rattle.wal_disk.specs.File.{magic, front, opened, IsBroken}
 
+-- one body more that has a frame
 pub fit_push : (bodies : List (List ℕ)) (body : List ℕ) → AllByRecursion HasFrame bodies → HasFrame body → AllByRecursion HasFrame (bodies ++ body ∷ [])
 fit_push [] body fit fits = (fits, tt)
 fit_push (first ∷ rest) body fit fits = (fit.0, fit_push rest body fit.1 fits)

@@ -61,6 +61,7 @@ goes_on_with version bodies rest file is = ap (drop 4) (is ∙ behind_magic vers
 one_version : (version other : ℕ) → magic version ≡ magic other → version ≡ other
 one_version version other same = let e = ap (λ (l : List ℕ). get_or l 3 0) same in omega (arith, e)
 
+-- a file is of one version and has one list of records
 pub same_records : (file : List ℕ) (version other : ℕ) (bodies others : List (List ℕ)) → IsFile version bodies file → IsFile other others file → (version ≡ other) × (bodies ≡ others)
 same_records file version other bodies others is also = (
   one_version version other (sym (begins_with version bodies (is.gate ∷ is.rest) file is.whole) ∙ begins_with other others (also.gate ∷ also.rest) file also.whole),
@@ -89,6 +90,7 @@ not_cut (a ∷ bodies) (b ∷ others) g n x rest shut fit fit' same cut =
     let both = one_body a b _ _ fit.0 fit'.0 (tails _ _ _ _ (sym (regroup a (flat_map opened bodies) (g ∷ x)) ∙ same ∙ regroup b (flat_map opened others) rest)) in
     not_cut bodies others g n x rest shut fit.1 fit'.1 both.1 cut
 
+-- a file that has records isn't outside the grammar
 pub not_broken : (file : List ℕ) (version : ℕ) (bodies : List (List ℕ)) (at : ℕ) → IsFile version bodies file → IsBroken file at → ⊥
 not_broken file version bodies at is (inl wrong) = wrong.0 version is.known (begins_with version bodies (is.gate ∷ is.rest) file is.whole)
 not_broken file version bodies at is (inr broken) =
@@ -135,6 +137,7 @@ places_behind (a ∷ bodies) (b ∷ others) rest more n m fit fit' same x y =
       length-number 4 (length b),
     )
 
+-- a file is outside the grammar at one place
 pub one_broken_place : (file : List ℕ) (at place : ℕ) → IsBroken file at → IsBroken file place → at ≡ place
 one_broken_place file at place (inl a) (inl b) = a.1 ∙ sym b.1
 one_broken_place file at place (inl a) (inr b) = absurd (a.0 b.0 b.2.known (begins_with b.0 b.1 b.2.rest file b.2.whole))
