@@ -1,5 +1,5 @@
 //! The file of records.
-ghost use Rattle.std.specs.Prelude.{◌≡◌, ◌≤◌, ◌<◌, ◌+◌, ◌++◌, [], ◌∷◌, ℕ, List, length, IfOk, IfErr, OnOk, OnErr, Some, is_some};
+ghost use Rattle.std.specs.Prelude.{◌≡◌, ◌≤◌, ◌<◌, ◌+◌, ◌^◌, ◌++◌, [], ◌∷◌, ℕ, List, length, IfOk, IfErr, OnOk, OnErr, Some, is_some};
 ghost use Rattle.disk_model.specs.Disk.{LeavesOnly, SameImages};
 ghost use Rattle.wal_disk.specs.Cause.{HasCause, NeverBad};
 ghost use Rattle.byte_fields.specs.Frames.{IsFrame};
@@ -74,7 +74,7 @@ impl<D: Disk> Wal<D> {
     /// it had: the disk failed, or the file is outside the grammar at this place, or memory ran out.
     pub fn recover(alloc: Global, disk: D) -> Result<Recovered<D>, WalRefused<D>>
         ensures ok { IfOk result (λ found. IsSound D.reads D.may_leave found.version found.bodies found.wal) }
-        ensures place { IfOk result (λ found. found.wal.1 ≡ length (front found.version found.bodies)) }
+        ensures place { IfOk result (λ found. (found.wal.1 ≡ length (front found.version found.bodies)) × (found.wal.1 < 2 ^ 64)) }
         ensures reads { IfOk result (λ found. D.reads found.wal.0 ≡ D.reads disk) }
         ensures any_moment { IfOk result (λ found. LeavesOnly D.clock D.left_since disk found.wal.0 (D.may_leave disk)) }
         ensures faults { IfOk result (λ found. D.faults found.wal.0 ≡ D.faults disk) }
