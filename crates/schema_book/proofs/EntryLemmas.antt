@@ -2,13 +2,13 @@
 use Rattle.std.proofs.Common.{◌≡◌, ℕ, ◌+◌, ◌<◌, ◌&&◌, suc, Bool, true, not, cond, List, [], ◌∷◌, ◌++◌, length, length-append, map, slice_get, Option, None, Some, refl, ap, ◌∙◌, nat_lt, position, arith}
 use Rattle.std.proofs.lemmas.List.{map-append}
 use Rattle.std.proofs.lemmas.List.Folds.{list_all-append}
-use Rattle.std.specs.List.{prefix_len, list_all}
+use Rattle.std.specs.List.{prefix_len}
 use Rattle.std.specs.Map.{keys_of}
 use Rattle.std.specs.Option.{option_and_then, option_map}
 use Rattle.indexmap.specs.IndexMap.{insert_entry}
 use Rattle.indexmap.proofs.MapLemmas.{Missing-position, insert_entry-absent}
 use Rattle.ngql_syntax.specs.declared.define.Column.{Column}
-use Rattle.schema_book.specs.Columns.{is_sound}
+use Rattle.schema_book.specs.Columns.{are_sound}
 use Rattle.schema_book.specs.Entries.{place_of, entry_of, most_entries, AreSound}
 
 module _ {K B X : Type 0} (see : K → B) where
@@ -46,9 +46,9 @@ pub entry_there : (name : List ℕ) (entries : List (List ℕ × List Column)) (
 entry_there name entries i e place at = ap (at_place entries) place ∙ ap (option_map (λ (x : List ℕ × List Column). (i, x.1))) at
 
 -- one more with sound columns
-pub one_more : (entries : List (List ℕ × List Column)) (name : List ℕ) (columns : List Column) → AreSound entries → length entries < most_entries → list_all is_sound columns ≡ true
+pub one_more : (entries : List (List ℕ × List Column)) (name : List ℕ) (columns : List Column) → AreSound entries → length entries < most_entries → are_sound columns ≡ true
     → AreSound (entries ++ (name, columns) ∷ [])
 one_more entries name columns were room sound = record {
   few = omega (arith, length-append entries ((name, columns) ∷ []));
-  sound = list_all-append (λ (e : List ℕ × List Column). list_all is_sound e.1) entries ((name, columns) ∷ []) ∙ (λ i. were.sound i && (sound i && true));
+  sound = list_all-append (λ (e : List ℕ × List Column). are_sound e.1) entries ((name, columns) ∷ []) ∙ (λ i. were.sound i && (sound i && true));
 }

@@ -2,3 +2,5 @@ pub mod EntryLemmas
 pub mod CreateLemmas
 pub mod OnceLemmas
 pub mod OverLemmas
+pub mod FitsLemmas
+pub mod BoundLemmas

@@ -1,5 +1,5 @@
 -- The columns of a tag or an edge type, and the values that they take.
-use Rattle.std.specs.Prelude.{ℕ, Bool, true, false, is_some, List, [], ◌∷◌, ◌++◌, Option, None, Some, if◌then◌else◌}
+use Rattle.std.specs.Prelude.{ℕ, Bool, true, false, is_some, is_none, List, [], ◌∷◌, ◌++◌, Option, None, Some, if◌then◌else◌}
 use Rattle.std.specs.List.{position_from}
 use Rattle.std.specs.Option.{option_map_or}
 use Rattle.std.specs.Str.{bytes_eq}
@@ -40,3 +40,7 @@ bad_column before (c ∷ columns) =
     if is_some (column_place before c.name) then Some (NameTaken c.name)
     else if is_sound c then bad_column (before ++ c ∷ []) columns
     else Some (WrongType c.name)
+
+-- whether none is refused: each name stands once, and each DEFAULT fits
+abbrev pub are_sound : List Column → Bool
+are_sound columns = is_none (bad_column [] columns)

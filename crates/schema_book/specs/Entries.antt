@@ -5,7 +5,7 @@ use Rattle.std.specs.Map.{keys_of}
 use Rattle.std.specs.Option.{option_and_then, option_map}
 use Rattle.std.specs.Str.{bytes_eq}
 use Rattle.ngql_syntax.specs.declared.define.Column.{Column}
-use Rattle.schema_book.specs.Columns.{is_sound}
+use Rattle.schema_book.specs.Columns.{are_sound}
 
 -- tags, or edge types: each with its name and its columns; the first has number 1
 abbrev pub Entries : Type 0
@@ -27,7 +27,7 @@ most_entries = 64
 abbrev pub is_named : List ℕ → Entries → Bool
 is_named name entries = is_some (place_of name entries)
 
--- what the book keeps of its tags and of its edge types: there are at most so many, and each DEFAULT fits its column
+-- what the book keeps of its tags and of its edge types: there are at most so many, and of each the columns are sound
 pub record AreSound (entries : Entries) : Type 0 where
   pub few : length entries ≤ most_entries
-  pub sound : list_all (λ e. list_all is_sound e.1) entries ≡ true
+  pub sound : list_all (λ e. are_sound e.1) entries ≡ true

@@ -9,3 +9,4 @@ pub mod Puts
 pub mod Lists
 pub mod Exprs
 pub mod Bind
+pub mod Fits

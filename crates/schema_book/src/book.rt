@@ -36,10 +36,11 @@ impl Model for Book {
 }
 
 impl Book {
-    ghost use Rattle.std.specs.Prelude.{◌≡◌, OnOk, OnErr, IfOk, IfErr, None, Some, Ok};
+    ghost use Rattle.std.specs.Prelude.{◌≡◌, OnOk, OnErr, IfOk, IfErr, None, Some, Ok, true};
     ghost use Rattle.std.specs.Option.{option_copied};
     ghost use Rattle.schema_book.specs.Create.{space_created, created, select_refused};
     ghost use Rattle.schema_book.specs.Bind.{bound, bound_in};
+    ghost use Rattle.schema_book.specs.Fits.{bound_fits};
     ghost use Rattle.schema_book.specs.Refusals.{Gives, Makes, IsRefusal};
     ghost use Rattle.schema_book.specs.Schema.{Schema, IsSound, nothing};
 
@@ -128,9 +129,11 @@ impl Book {
         Ok(Made::New(1))
     }
 
-    /// What a statement says, by the schema as it is. Each refusal is that of the definition.
+    /// What a statement says, by the schema as it is: each row fits its columns, each id is of the space's kind, and each tag and
+    /// edge type is there. Each refusal is that of the definition.
     pub fn bind(&self, alloc: Global, statement: &Statement) -> Result<Bound, BookRefused>
         ensures ok { IfOk result (λ made. bound self.now statement.now ≡ Ok made) }
+        ensures fits { IfOk result (λ made. bound_fits self.now made ≡ true) }
         ensures refused { IfErr result (IsRefusal (bound self.now statement.now)) }
         ensures sound { IsSound self.now }
     {

@@ -1,8 +1,7 @@
 //! Tags, or edge types, in the order of their creation.
 ghost use Rattle.std.specs.Prelude.{◌≡◌, ◌<◌, ◌≤◌, ◌++◌, ◌∷◌, [], true, length, slice_get, Some, None, OnSome, IfSome, OnOk, OnErr};
-ghost use Rattle.std.specs.List.{list_all};
 ghost use Rattle.std.specs.Option.{option_map};
-ghost use Rattle.schema_book.specs.Columns.{is_sound};
+ghost use Rattle.schema_book.specs.Columns.{are_sound};
 ghost use Rattle.schema_book.specs.Entries.{entry_of, place_of, is_named, most_entries, AreSound};
 
 use indexmap::IndexMap;
@@ -14,7 +13,8 @@ use std::marker::Model;
 /// The greatest number of tags, and of edge types.
 pub const MOST_ENTRIES: usize = 64;
 
-/// Tags, or edge types, each with its name and its columns, in the order of their creation. Each DEFAULT fits its column.
+/// Tags, or edge types, each with its name and its columns, in the order of their creation. No column's name stands twice, and
+/// each DEFAULT fits its column.
 #[derive(Drop)]
 pub struct Catalog {
     kept: IndexMap<Vec<u8>, Columns>,
@@ -82,7 +82,7 @@ impl Catalog {
     pub fn add(&mut self, alloc: Global, name: &[u8], columns: Columns) -> Result<(), NoMemory>
         requires new { place_of name.now self.old ≡ None }
         requires few { length self.old < most_entries }
-        requires sound { list_all is_sound columns ≡ true }
+        requires sound { are_sound columns ≡ true }
         ensures ok { OnOk result (self.new ≡ self.old ++ (name.now, columns) ∷ []) }
         ensures err { OnErr result (self.new ≡ self.old) }
     {

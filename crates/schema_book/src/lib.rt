@@ -8,11 +8,12 @@
 //!
 //! **Claimed.** `create` and `bind` answer just what the definitions `created` and `bound` say, and each refusal is theirs:
 //! the first in the stated order, at its first place; but for want of memory, behind which all is as it was. `select` and
-//! `drop_space` take no memory. An edge that a statement lists twice is bound once, at its first place.
+//! `drop_space` take no memory. An edge that a statement lists twice is bound once, at its first place. What is bound fits the
+//! schema: each row its columns, each id the space's kind, and each tag and edge type is there.
 //!
 //! **To read, and believe**, in this order: `specs/Schema` and `Entries`; `Columns` (which values a column takes); `Refusals`
 //! (what 'the first' means); `Create`; `Ids`, `Rows`, `Puts`, `Lists`, `Exprs` (what the parts of a statement become, and what
-//! refuses them); `Bind`, a definition a statement.
+//! refuses them); `Bind`, a definition a statement; `Fits` (what fits a schema).
 //!
 //! Below are the written statements (`ngql_syntax`), the kinds of ids (`part_keys`), calls and queries (`graph_model`); above
 //! will be what runs statements.
