@@ -1,0 +1,9 @@
+use Rattle.std.proofs.Common.{ap, sym, ◌∙◌}
+use Rattle.std.specs.Option.{is_some}
+use Rattle.std.specs.FinMap.{get}
+use Rattle.maps.proofs.Keys.{nat_keys}
+use Rattle.maps.proofs.Made.{get_made}
+use Rattle.part_fold.proofs.standing.Standing.has.Goals as goal
+
+pub returns : goal.returns
+returns c = c.contains_key.ensures ∙ ap is_some (sym (get_made nat_keys c.self.inside.kept.entries c.args.v)) ∙ ap (λ m. is_some (get m c.args.v)) c.self.view_is
