@@ -3,5 +3,5 @@ pub mod WordLemmas
 pub mod Turns
 pub mod Refused
 pub mod Checked
-pub mod Joinings
+pub mod CondLemmas
 pub mod LineLemmas

@@ -6,5 +6,5 @@ pub mod Tokens
 pub mod Gives
 pub mod Rules
 pub mod Fronts
-pub mod Joins
+pub mod Conds
 pub mod Promise

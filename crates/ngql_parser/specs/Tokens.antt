@@ -25,9 +25,13 @@ ArePlaced (t ∷ rest) = IsPlaced t × ArePlaced rest
 abbrev pub word_of : List ℕ → Lexed → List ℕ
 word_of line t = take (t.upto - t.from) (drop t.from line)
 
--- the number that it spells, or 0
+-- the number that it spells, where it is a whole number that fits, or 0
+abbrev pub value_by : TokenKind → List ℕ → ℤ
+value_by lexed.Int word = unwrap_or (number_of word) (pos 0)
+value_by _ word = pos 0
+
 abbrev pub value_of : List ℕ → Lexed → ℤ
-value_of line t = unwrap_or (number_of (word_of line t)) (pos 0)
+value_of line t = value_by t.kind (word_of line t)
 
 -- the name or the text that it spells: a word in backquotes is the name between them
 abbrev pub name_in : List ℕ → List ℕ

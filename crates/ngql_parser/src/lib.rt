@@ -11,7 +11,8 @@
 //! answers what reading by its rule gives (`specs/Gives`); that this is what the rule spells is that crate's theorem, and the test that
 //! one token of lookahead tells what comes is computed (`proofs/Checked`).
 //!
-//! Conditions are read by functions that call one another, a level of calls for each bracket and each NOT.
+//! Conditions are read by a loop over the brackets that are open (`cond`), so no depth of brackets takes a stack of calls;
+//! `specs/Conds` says, by the rules, what is still to be read from where the loop stands.
 //!
 //! Below are the tokens of `ngql_lex` and the statements of `ngql_syntax`; above is the schema book, which binds them.
 #![tactic(auto)]
@@ -26,6 +27,7 @@ mod go;
 mod insert;
 mod kind;
 mod leaves;
+mod level;
 mod list;
 mod names;
 mod number;

@@ -24,13 +24,13 @@ pub fn word_of<'a>(line: &'a [u8], token: &Lexed) -> &'a [u8]
     &bytes[..len]
 }
 
-/// The number that a token spells, or 0.
+/// The number that a token spells, where it is a whole number that fits, or 0.
 pub fn value_of(line: &[u8], token: &Lexed) -> i64
     ensures { result ≡ spec.value_of line.now token.now }
 {
-    match number_of(word_of(line, token)) {
-        Some(number) => number,
-        None => 0,
+    match token.kind {
+        TokenKind::Int => number_of(word_of(line, token)).unwrap_or(0),
+        _ => 0,
     }
 }
 
