@@ -5,3 +5,10 @@ pub mod Refused
 pub mod Checked
 pub mod CondLemmas
 pub mod LineLemmas
+pub mod Forgotten
+pub mod Bare
+pub mod SameWords
+pub mod Closing
+pub mod Unplaced
+pub mod Printed
+pub mod PrintedReads

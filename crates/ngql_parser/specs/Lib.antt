@@ -8,3 +8,9 @@ pub mod Rules
 pub mod Fronts
 pub mod Conds
 pub mod Promise
+pub mod Keeps
+pub mod Places
+pub mod Alike
+pub mod Laws
+pub mod Plain
+pub mod PlainReads

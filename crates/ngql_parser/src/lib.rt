@@ -14,6 +14,9 @@
 //! Conditions are read by a loop over the brackets that are open (`cond`), so no depth of brackets takes a stack of calls;
 //! `specs/Conds` says, by the rules, what is still to be read from where the loop stands.
 //!
+//! Laws ([`same_words_say_the_same`], [`semicolon_changes_nothing`], [`plain_is_read`]): what changes nothing in a line, and that a statement
+//! in its plain form is read back as itself (`specs/Alike`, `Places`, `Plain`, `PlainReads`).
+//!
 //! Below are the tokens of `ngql_lex` and the statements of `ngql_syntax`; above is the schema book, which binds them.
 #![tactic(auto)]
 
@@ -26,6 +29,7 @@ mod fetch;
 mod go;
 mod insert;
 mod kind;
+mod laws;
 mod leaves;
 mod level;
 mod list;
@@ -44,6 +48,7 @@ mod whole;
 mod words;
 
 pub use kind::Kind;
+pub use laws::{plain_is_read, same_words_say_the_same, semicolon_changes_nothing};
 pub use option::{Opt, Options};
 pub use parse_refused::ParseRefused;
 pub use refusal::Refusal;

@@ -1,0 +1,49 @@
+//! What changes nothing in a line: laws of what its tokens spell.
+ghost use Rattle.std.specs.Prelude.{◌≡◌, ℕ, true, false, List, [], ◌∷◌, ◌++◌, Option, nat_eq};
+ghost use Rattle.ngql_lex.specs.Lines.{without_cr};
+ghost use Rattle.ngql_parser.specs.Alike.{SameLine};
+ghost use Rattle.ngql_parser.specs.Kinds.{code};
+ghost use Rattle.ngql_parser.specs.Laws.{ends_in};
+ghost use Rattle.ngql_parser.specs.Plain.{AreEnds, IsId, IsOfEdge, IsWritable, Condition, AreOfEdge, steps_of, plain_condition, plain_edges, plain_vertices};
+ghost use Rattle.grammar.specs.Language.{Spelled};
+ghost use Rattle.ngql_parser.specs.PlainReads.{plain_use, plain_del_vertex, plain_del_edge, plain_fetch_vertex, plain_fetch_edge, plain_go, IsGo, AreOthers, IsShown, IsOfVertex};
+ghost use Rattle.ngql_parser.specs.Places.{bare_line};
+ghost use Rattle.ngql_parser.specs.Promise.{AreLine, Spells, Tokens};
+ghost use Rattle.ngql_parser.specs.Rules.{ngql, kind_of, stmt, cond};
+ghost use Rattle.ngql_parser.specs.declared.kind.Kind.TheVariants as kind;
+ghost use Rattle.ngql_parser.specs.declared.token.Token.{Token};
+ghost use Rattle.ngql_syntax.specs.declared.expr.RawExpr.{RawExpr};
+ghost use Rattle.ngql_syntax.specs.declared.go.GoWords.{GoWords};
+ghost use Rattle.ngql_syntax.specs.declared.lit.Lit.{Lit};
+ghost use Rattle.ngql_syntax.specs.declared.put.EdgeRow.{EdgeRow};
+ghost use Rattle.ngql_syntax.specs.declared.put.Ends.{Ends};
+ghost use Rattle.ngql_syntax.specs.declared.put.PutEdges.{PutEdges};
+ghost use Rattle.ngql_syntax.specs.declared.put.PutVertices.{PutVertices};
+ghost use Rattle.ngql_syntax.specs.declared.put.VertexRow.{VertexRow};
+ghost use Rattle.ngql_syntax.specs.declared.spanned.Spanned.{Spanned};
+ghost use Rattle.ngql_syntax.specs.declared.statement.Line.{Line};
+ghost use Rattle.ngql_syntax.specs.declared.statement.Statement.TheVariants as statement;
+
+/// A `;` at the end of a line that has none there changes nothing.
+pub fn semicolon_changes_nothing()
+    ensures { (ts : List Token) (l : Line) (s : Token) → AreLine ts l → ends_in (code kind.Semicolon) ts ≡ false → nat_eq (kind_of s) (code kind.Semicolon) ≡ true → AreLine (ts ++ s ∷ []) l }
+{}
+
+/// A line of the same words, with keywords in another case and with more or fewer blanks, is spelled too, and says the same but for
+/// the places in it.
+pub fn same_words_say_the_same()
+    ensures { (version : ℕ) (line other : List ℕ) (l : Line) (s : Spells version line l) (t : Tokens version other) → SameLine (without_cr line) (without_cr other) s.tokens.lexed t.lexed → (m : Line) × Spells version other m × (bare_line m ≡ bare_line l) }
+{}
+
+/// A statement in its plain form is spelled by it, and so is a condition: so each is read back as itself.
+pub fn plain_is_read()
+    ensures edges { (p : PutEdges) → IsWritable (λ (r : EdgeRow). AreEnds r.ends) p.rows → Spelled ngql false stmt (plain_edges p) (statement.PutEdge p) }
+    ensures vertices { (p : PutVertices) → IsWritable (λ (r : VertexRow). IsId r.id.val) p.rows → Spelled ngql false stmt (plain_vertices p) (statement.PutVertex p) }
+    ensures select { (n : Spanned) → Spelled ngql false stmt (plain_use n) (statement.Select n) }
+    ensures del_vertices { (ids : List Lit) → IsWritable (λ (l : Lit). IsId l.val) ids → Spelled ngql false stmt (plain_del_vertex ids) (statement.DelVertex ids) }
+    ensures del_edges { (n : Spanned) (ends : List Ends) → IsWritable AreEnds ends → Spelled ngql false stmt (plain_del_edge n ends) (statement.DelEdge n ends) }
+    ensures fetch_vertices { (n : Spanned) (first : Lit) (others : List Lit) (shown : List RawExpr) → IsId first.val → AreOthers (λ (l : Lit). IsId l.val) others → IsShown IsOfVertex shown → Spelled ngql false stmt (plain_fetch_vertex n first others shown) (statement.FetchVertex n (first ∷ others) shown) }
+    ensures fetch_edges { (n : Spanned) (first : Ends) (others : List Ends) (shown : List RawExpr) → AreEnds first → AreOthers AreEnds others → IsShown IsOfEdge shown → Spelled ngql false stmt (plain_fetch_edge n first others shown) (statement.FetchEdge n (first ∷ others) shown) }
+    ensures go { (g : GoWords) (c : Option Condition) → IsGo g c → Spelled ngql false stmt (plain_go g c) (statement.Go g) }
+    ensures conditions { (c : Condition) → AreOfEdge c → Spelled ngql false cond (plain_condition c) (steps_of c) }
+{}
