@@ -82,6 +82,17 @@ module _ {S : Type 0} (meaning : S → Contents) (has : S → List ℕ → Bool)
       placed = subst (ArePlaced (has e.store) e.chains.entries) (sym plans) tt;
     }
 
+  -- What a machine shows where nothing is reserved any more.
+  pub forgotten : (a : Machine S) (p : Part) (entries : List (ℕ × PartEntry)) → IsMachine meaning has p entries a
+      → (b : Machine S) → b.setting ≡ a.setting → b.next ≡ a.next → meaning b.store ≡ meaning a.store → standing b.chains.entries ≡ standing a.chains.entries → b.plans.items ≡ []
+      → IsMachine meaning has p [] b
+  forgotten a p entries is b same-s same-n same-m same-c plans = record {
+    setting = subst IsSetting (sym same-s) is.setting;
+    state = moved a.setting b.setting a.next b.next p (meaning a.store) (meaning b.store) (standing a.chains.entries) (standing b.chains.entries) same-s same-n same-m same-c is.state;
+    planned = subst (λ (l : List Plan). ArePlans b.setting b.next p (meaning b.store) (standing b.chains.entries) l []) (sym plans) tt;
+    placed = subst (ArePlaced (has b.store) b.chains.entries) (sym plans) tt;
+  }
+
   -- A machine that is new.
   pub new_is : (a : Machine S) → IsSetting a.setting → meaning a.store ≡ empty → a.chains.entries ≡ [] → a.plans.items ≡ [] → IsMachine meaning has blank [] a
   new_is a setting store chains plans = record {

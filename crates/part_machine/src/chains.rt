@@ -1,12 +1,12 @@
 //! The chains that stand, by number, beside the store.
-ghost use Rattle.std.specs.Prelude.{◌≡◌, ℕ, true, IfOk, OnOk, Option};
+ghost use Rattle.std.specs.Prelude.{◌≡◌, ◌++◌, ℕ, true, IfOk, OnOk, Option};
 ghost use Rattle.std.specs.Ordering.{nat_cmp};
 ghost use Rattle.std.specs.Option.{option_copied};
 ghost use Rattle.std.specs.FinMap.{get};
 ghost use Rattle.maps.specs.Maps.{with_at};
 ghost use Rattle.maps.specs.Places.{has_place};
 ghost use Rattle.part_machine.specs.Chains.{standing, turned, turn_back};
-ghost use Rattle.part_machine.specs.Placed.{HasTurnPlace};
+ghost use Rattle.part_machine.specs.Placed.{HasTurnPlace, numbers_in};
 
 use crate::turn::Turn;
 use lists::NoMemory;
@@ -14,7 +14,8 @@ use part_keys::PrimeRec;
 use std::alloc::Global;
 use std::collections::BTreeMap;
 
-/// Chains by number; a number may have a place with no chain in it, which is as if it had none.
+/// Chains by number; a number may have a place with no chain in it, which is as if it had none. Such a place stands for as
+/// long as a plan may need it.
 pub(crate) type Places = BTreeMap<u64, Option<PrimeRec>>;
 
 /// The chain of this number.
@@ -131,5 +132,40 @@ pub(crate) fn take_turn(places: &mut Places, turn: Option<Turn>)
             let Turn { at, chain } = turn;
             fill(places, at, chain);
         }
+    }
+}
+
+/// Notes the number of a turn. Refused for want of memory alone.
+pub(crate) fn note_number(numbers: &mut Vec<u64>, turn: &Option<Turn>) -> Result<(), NoMemory>
+    ensures { OnOk result (numbers.new.items ≡ numbers.old.items ++ numbers_in turn.now) }
+{
+    match turn {
+        None => Ok(()),
+        Some(turn) => {
+            numbers.push(turn.at)?;
+            Ok(())
+        }
+    }
+}
+
+// Takes the place of a number out, where it has no chain.
+fn drop_place(places: &mut Places, v: u64)
+    ensures { standing places.new.entries ≡ standing places.old.entries }
+{
+    let Some(place) = places.get(&v) else {
+        return;
+    };
+    let None = place else {
+        return;
+    };
+    places.remove(&v);
+}
+
+/// Takes out the places of these numbers in which no chain stands. The chains stay.
+pub(crate) fn drop_places(places: &mut Places, numbers: Vec<u64>)
+    ensures { standing places.new.entries ≡ standing places.old.entries }
+{
+    for v in numbers {
+        drop_place(places, v);
     }
 }

@@ -1,6 +1,6 @@
 //! The machine of one part.
 
-use crate::chains::{Places, take_turn};
+use crate::chains::{Places, drop_places, take_turn};
 use crate::plan::Plan;
 use crate::playing::{play_all, take_back};
 use crate::primes::{Primes, first_behind};
@@ -13,6 +13,7 @@ use part_store::Setting;
 use part_views::view;
 use std::alloc::Global;
 use std::collections::{BTreeMap, VecDeque};
+use std::mem::replace;
 
 /// Entries, each at its index.
 pub type PlacedEntries = Listed<(u64, PartEntry)>;
@@ -26,6 +27,8 @@ pub struct Machine<S> {
     pub(crate) store: S,
     pub(crate) chains: Places,
     pub(crate) plans: VecDeque<Plan>,
+    /// The numbers for which places were made among the chains since the last reserve.
+    pub(crate) held: Vec<u64>,
 }
 
 impl<S: KeyStore> Machine<S> {
@@ -55,6 +58,7 @@ impl<S: KeyStore> Machine<S> {
             store,
             chains: BTreeMap::new(alloc),
             plans: VecDeque::new(alloc),
+            held: Vec::new(alloc),
         }
     }
 
@@ -68,8 +72,34 @@ impl<S: KeyStore> Machine<S> {
         ensures setting { self.new.setting ≡ self.old.setting }
         ensures next { self.new.next ≡ self.old.next }
     {
-        let first = self.next;
+        self.forget(alloc);
+        self.plan_all(alloc, list)
+    }
+
+    // Nothing is reserved any more, and no place is kept for it. The state stays.
+    fn forget(&mut self, alloc: Global)
+        ensures shows { (p : Part) (entries : List (ℕ × Entry)) → IsMachine S.meaning S.has_place p entries self.old → IsMachine S.meaning S.has_place p [] self.new }
+        ensures none { self.new.plans.items ≡ [] }
+        ensures setting { self.new.setting ≡ self.old.setting }
+        ensures next { self.new.next ≡ self.old.next }
+    {
         self.plans = VecDeque::new(alloc);
+        let held = replace(&mut self.held, Vec::new(alloc));
+        drop_places(&mut self.chains, held);
+    }
+
+    // Makes a plan for each of these placed entries, where nothing is reserved. Refused for want of memory alone, and then none
+    // is reserved; the state stays, whatever is answered.
+    fn plan_all(&mut self, alloc: Global, list: &PlacedEntries) -> Result<(), NoMemory>
+        requires shows { (p : Part) × IsMachine S.meaning S.has_place p [] self.old }
+        requires none { self.old.plans.items ≡ [] }
+        requires taken { AreTaken self.old.setting self.old.next list.now }
+        ensures ok { OnOk result ((p : Part) → IsMachine S.meaning S.has_place p [] self.old → IsMachine S.meaning S.has_place p list.now self.new) }
+        ensures err { OnErr result ((p : Part) → IsMachine S.meaning S.has_place p [] self.old → IsMachine S.meaning S.has_place p [] self.new) }
+        ensures setting { self.new.setting ≡ self.old.setting }
+        ensures next { self.new.next ≡ self.old.next }
+    {
+        let first = self.next;
         let mut backs = Vec::new(alloc);
         let told = play_all(alloc, self, &mut backs, list.as_slice());
         take_back(self, backs);

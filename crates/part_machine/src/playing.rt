@@ -10,7 +10,7 @@ ghost use Rattle.part_machine.specs.Playing.{AreTaken, undone, returned, AreBack
 ghost use Rattle.part_machine.specs.Taken.{IsTaken};
 
 use crate::back::Back;
-use crate::chains::{back_of_turn, copied_turn, hold_turn, take_turn};
+use crate::chains::{back_of_turn, copied_turn, hold_turn, note_number, take_turn};
 use crate::machine::Machine;
 use crate::planning::plan_entry;
 use crate::undoing::{batch_back, copied_batch};
@@ -45,6 +45,7 @@ pub(crate) fn play<S: KeyStore>(
     )?;
     machine.store.reserve(alloc, &plan.batch)?;
     hold_turn(&mut machine.chains, &plan.turn)?;
+    note_number(&mut machine.held, &plan.turn)?;
     let back = Back {
         batch: batch_back(alloc, &machine.store, &plan.batch)?,
         turn: back_of_turn(alloc, &machine.chains, &plan.turn)?,

@@ -70,10 +70,10 @@ pub(crate) fn plan_fence<S: KeyStore>(
     if term < kept {
         return Ok(still(alloc, Applied::Stale(kept)));
     }
-    let mut batch = Batch::new(alloc);
-    push_guard(alloc, s, &mut batch, source, term)?;
+    let mut guard = Batch::new(alloc);
+    push_guard(alloc, s, &mut guard, source, term)?;
     Ok(Plan {
-        batch,
+        batch: guard,
         turn: None,
         answer: Applied::Fenced(all_written(s, store, v, edges)),
     })
