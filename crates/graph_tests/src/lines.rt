@@ -125,7 +125,9 @@ fn answer(alloc: Global, said: Said) -> Answer {
 
 fn step(alloc: Global, line: Line) -> Result<GStep, NoMemory> {
     Ok(match line {
-        Line::Invoke(number, asked) => GStep::Invoke(call(number), op(alloc, asked)?),
+        Line::Invoke(number, asked) => {
+            GStep::Invoke(call(number), op(alloc, asked)?.copy(alloc)?)
+        }
         Line::Begin(number) => GStep::Begin(call(number)),
         Line::Skip(number) => GStep::Skip(call(number)),
         Line::Refuse(number) => GStep::Refuse(call(number)),

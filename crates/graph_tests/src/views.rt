@@ -80,7 +80,7 @@ fn first_unseen(
     shown: &[(Kind, i64, Seen, Seen)],
 ) -> Result<Option<usize>, NoMemory> {
     for (i, said) in shown.iter().enumerate() {
-        let query = query(alloc, said.0, said.1)?;
+        let query = query(alloc, said.0, said.1)?.copy(alloc)?;
         let view = graph.view(alloc, &query)?;
         if seen(&view, 0) != said.2 || seen(&view, 1) != said.3 || view.len() > 2 {
             return Ok(Some(i));
