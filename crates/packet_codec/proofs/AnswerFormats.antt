@@ -53,5 +53,6 @@ answer_within (suc (suc (suc (suc (suc zero)))) ∷ bytes) = made_within (λ id.
 answer_within (suc (suc (suc (suc (suc (suc zero))))) ∷ bytes) = made_within (λ rows. answers.Shown rows) (view_format Tagged) (length (6 ∷ bytes)) bytes (omega arith)
 answer_within (suc (suc (suc (suc (suc (suc (suc kind)))))) ∷ bytes) = rw (no_answer (suc (suc (suc (suc (suc (suc (suc kind))))))) bytes (omega arith)) (omega arith)
 
+-- an answer
 pub answer_format : IsFormat answer_at answer FitsAnswer
 answer_format = record { takes = answer_takes; again = answer_again; within = answer_within }

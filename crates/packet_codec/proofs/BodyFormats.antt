@@ -82,6 +82,7 @@ body_within from Fence bytes = made_within (λ x. Chain (says.Fence x.0.0 x.0.1 
 body_within from Fenced bytes = made_within (λ x. Chain (says.Fenced x.0.0 x.0.1 x.1)) (both_format chain_format flag_format) (length bytes) bytes (omega arith)
 body_within from Resume bytes = made_within (λ x. Chain (says.Resume x.0 x.1)) (both_format (number_format 8 wide8) behind_format) (length bytes) bytes (omega arith)
 
+-- the fields of a packet, by its sender and its kind
 pub body_format : (from : Place) (kind : Kind) → IsFormat (body_at from kind) body (FitsKind from kind)
 body_format from kind = record {
   takes = body_takes from kind;

@@ -45,6 +45,7 @@ place_within (zero ∷ bytes) = made_within (λ n. places.Client n) small_format
 place_within (suc zero ∷ bytes) = made_within (λ x. places.Peer x.0 x.1) part_format (length (1 ∷ bytes)) bytes (omega arith)
 place_within (suc (suc kind) ∷ bytes) = rw (no_place (suc (suc kind)) bytes (omega arith)) (omega arith)
 
+-- who sends
 pub place_format : IsFormat place_at place FitsPlace
 place_format = record { takes = place_takes; again = place_again; within = place_within }
 
@@ -75,5 +76,6 @@ end_within (suc zero ∷ bytes) = made_within (λ x. ends.Peer x.0 x.1) part_for
 end_within (suc (suc zero) ∷ bytes) = made_within (λ x. ends.Part x.0 x.1) part_format (length (2 ∷ bytes)) bytes (omega arith)
 end_within (suc (suc (suc kind)) ∷ bytes) = rw (no_end (suc (suc (suc kind))) bytes (omega arith)) (omega arith)
 
+-- to whom
 pub end_format : IsFormat end_at end FitsEnd
 end_format = record { takes = end_takes; again = end_again; within = end_within }

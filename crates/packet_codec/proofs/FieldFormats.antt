@@ -47,6 +47,7 @@ about_within (zero ∷ bytes) = made_within (λ n. abouts.Call n) (number_format
 about_within (suc zero ∷ bytes) = made_within (λ v. abouts.Chain v) (number_format 8 wide8) (length (1 ∷ bytes)) bytes (omega arith)
 about_within (suc (suc kind) ∷ bytes) = rw (no_about (suc (suc kind)) bytes (omega arith)) (omega arith)
 
+-- what a NotLeader is about
 pub about_format : IsFormat about_at about FitsAbout
 about_format = record { takes = about_takes; again = about_again; within = about_within }
 
@@ -74,6 +75,7 @@ behind_within (zero ∷ bytes) = omega arith
 behind_within (suc zero ∷ bytes) = made_within (λ v. Some v) (number_format 8 wide8) (length (1 ∷ bytes)) bytes (omega arith)
 behind_within (suc (suc kind) ∷ bytes) = rw (no_behind (suc (suc kind)) bytes (omega arith)) (omega arith)
 
+-- where a Resume goes on
 pub behind_format : IsFormat behind_at behind FitsBehind
 behind_format = record { takes = behind_takes; again = behind_again; within = behind_within }
 

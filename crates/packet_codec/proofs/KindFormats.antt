@@ -61,5 +61,6 @@ unfolding kind_at byte_at
 kind_within [] = omega arith
 kind_within (b ∷ bytes) = known_within (kind_of b) b bytes
 
+-- a kind
 pub kind_format : IsFormat kind_at (λ k. number_of k ∷ []) (λ k. Unit {0})
 kind_format = record { takes = kind_takes; again = λ k rest fits. kind_again k rest; within = kind_within }

@@ -39,6 +39,7 @@ with_format head =
     (λ p is. (p.body, (subst (λ (h : Head). FitsBody h.0.1 p.body) is.1 is.0, ap (λ (h : Head). h.0.0) is.1), ap (λ (h : Head). packet_with h p.body) (sym is.1)))
     (body_format head.0.1 head.0.0)
 
+-- a packet
 pub packet_format : IsFormat packet_at packet Fits
 unfolding packet_at
 packet_format =
