@@ -4,7 +4,7 @@
 //! with each of its answers once, among them a late Remote and IF NOT EXISTS over two edges, and what stands at the end is
 //! looked at. A body that always gives up for want of memory meets its contract, and is refused here alone.
 //!
-//! `lines` has the words of the run, `run` the lines with their answers, `guards` what a guard says of some terms. Below are
+//! `lines` has the words of the run, `run` the lines with their answers, `guards` the rows of a guard. Below are
 //! the crates `part_machine` and `term_guard`; nothing is above.
 #![tactic(auto)]
 
