@@ -2,15 +2,13 @@
 //!
 //! A crate of its own, since a crate with tests is proved twice. What is read of a line, and where it is refused, is proved; here
 //! stand lines with what they mean, by hand: their tokens (`tokens`), what a line of each rule says (`lines`), a line for each
-//! refusal at each place where it can come (`refused`, and `cuts`, where lines are cut or marked token by token), lines of 65,000 brackets (`brackets`), and
-//! what a schema makes of lines one after another (`schema`). `page`, `shown` and `bound` write what is found as text, in which
-//! `follow@13` is the name that stands at byte 13 of its line.
+//! refusal at each place where it can come (`refused`, and `cuts`, where lines are cut or marked token by token), and lines of 65,000
+//! brackets (`brackets`). `page` and `shown` write what is found as text, in which `follow@13` is the name that stands at byte 13
+//! of its line.
 //!
-//! Below are `ngql_lex`, `ngql_parser` and `schema_book`; nothing is above.
+//! Below are `ngql_lex` and `ngql_parser`; nothing is above.
 #![tactic(auto)]
 
-#[cfg(test)]
-mod bound;
 #[cfg(test)]
 mod brackets;
 #[cfg(test)]
@@ -21,8 +19,6 @@ mod lines;
 mod page;
 #[cfg(test)]
 mod refused;
-#[cfg(test)]
-mod schema;
 #[cfg(test)]
 mod shown;
 #[cfg(test)]
