@@ -15,15 +15,19 @@ use Rattle.byte_fields.specs.Order.{bytes_cmp}
 
 -- ---- numbers
 
+-- the lower of two numbers stands first
 pub cmp_less : (x y : ℕ) → x < y → nat_cmp x y ≡ Less
 cmp_less x y lt = sym (nat_cmp_is x y Less lt)
 
+-- equal numbers aren't told apart
 pub cmp_equal : (x y : ℕ) → x ≡ y → nat_cmp x y ≡ Equal
 cmp_equal x y e = sym (nat_cmp_is x y Equal e)
 
+-- the greater of two numbers stands last
 pub cmp_greater : (x y : ℕ) → y < x → nat_cmp x y ≡ Greater
 cmp_greater x y gt = sym (nat_cmp_is x y Greater gt)
 
+-- of two numbers one is lower, or they are equal
 pub which : (x y : ℕ) → (x < y) ⊎ ((x ≡ y) ⊎ (y < x))
 which x y =
     elim (cases_lt x y) [
@@ -73,6 +77,7 @@ digits_cmp b g h l m l-small m-small =
       ]
     ]
 
+-- orders that decide one after the other may be grouped at will
 pub then_assoc : (o p q : Ordering) → ordering_then (ordering_then o p) q ≡ ordering_then o (ordering_then p q)
 then_assoc Less p q = refl
 then_assoc Equal p q = refl
@@ -113,6 +118,7 @@ low_cmp (suc k) x y a b =
     ∙ ap (λ (u : ℕ). ordering_then (nat_cmp u (byte_at k y * 256 ^ k + y % 256 ^ k)) (bytes_cmp a b)) (sym (low_digits k x))
     ∙ ap (λ (v : ℕ). ordering_then (nat_cmp (x % 256 ^ suc k) v) (bytes_cmp a b)) (sym (low_digits k y))
 
+-- bytes of numbers of one width are ordered by the numbers, then by what follows
 pub number_cmp : (n x y : ℕ) (a b : List ℕ) → x < 256 ^ n → y < 256 ^ n → bytes_cmp (number n x ++ a) (number n y ++ b) ≡ ordering_then (nat_cmp x y) (bytes_cmp a b)
 number_cmp n x y a b x-lt y-lt =
     low_cmp n x y a b ∙ ap (λ (u : ℕ). ordering_then (nat_cmp u (y % 256 ^ n)) (bytes_cmp a b)) (mod-eq_of_lt x-lt) ∙ ap (λ (v : ℕ). ordering_then (nat_cmp x v) (bytes_cmp a b)) (mod-eq_of_lt y-lt)
