@@ -12,3 +12,4 @@ pub mod Closing
 pub mod Unplaced
 pub mod Printed
 pub mod PrintedReads
+pub mod PrintedDefines

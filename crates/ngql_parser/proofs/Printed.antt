@@ -34,7 +34,7 @@ use Rattle.ngql_parser.specs.Tokens.{int_kind, is_from_to}
 abbrev pub Says : {A : Type 0} → (List Token → List RawStep → Type 0) → Rule A → List Token → A → Type 0
 Says Inner g ts v = Spells kind_of 0 false Inner g ts v
 
-int_case : (P : Kind → Type 0) (n : ℤ) → P kind.SmallInt → P kind.Int → P (int_kind (Some n))
+pub int_case : (P : Kind → Type 0) (n : ℤ) → P kind.SmallInt → P kind.Int → P (int_kind (Some n))
 int_case P n small other = cond_both (is_from_to 0 8 n) kind.SmallInt kind.Int P (λ e. small) (λ e. other)
 
 module _ (Inner : List Token → List RawStep → Type 0) where
@@ -97,22 +97,41 @@ module _ (Inner : List Token → List RawStep → Type 0) where
   any [] = tt
   any (a ∷ items) = (tt, any items)
 
-  maybe_said : {A : Type 0} (g : Rule A) (plain : A → List Token) → ((a : A) → Says Inner g (plain a) a) → (items : List A) →
-      Says Inner (maybe listed (with_commas None g)) (commas plain items) items
-  maybe_said g plain said [] = inl (refl, refl)
-  maybe_said {A = A} g plain said (a ∷ items) = inr (a ∷ items, (a ∷ items, items_said (λ (b : A). Unit {0}) g plain (λ b h. said b) None a items (any (a ∷ items)) tt, refl), refl)
+  -- a list in parentheses, within a limit
+  abbrev pub AreWithin : {A : Type 0} → Option ℕ → List A → Type 0
+  AreWithin limit [] = Unit {0}
+  AreWithin limit (a ∷ items) = Fits limit (suc (length items))
 
-  bracketed_said : {A : Type 0} (g : Rule A) (plain : A → List Token) → ((a : A) → Says Inner g (plain a) a) → (items : List A) → Says Inner (in_parentheses None g) (bracketed (commas plain items)) items
-  bracketed_said g plain said items = (
+  pub maybe_said : {A : Type 0} (limit : Option ℕ) (g : Rule A) (plain : A → List Token) → ((a : A) → Says Inner g (plain a) a) → (items : List A) → AreWithin limit items →
+      Says Inner (maybe listed (with_commas limit g)) (commas plain items) items
+  maybe_said limit g plain said [] w = inl (refl, refl)
+  maybe_said {A = A} limit g plain said (a ∷ items) w = inr (a ∷ items, (a ∷ items, items_said (λ (b : A). Unit {0}) g plain (λ b h. said b) limit a items (any (a ∷ items)) w, refl), refl)
+
+  pub bracketed_said : {A : Type 0} (limit : Option ℕ) (g : Rule A) (plain : A → List Token) → ((a : A) → Says Inner g (plain a) a) → (items : List A) → AreWithin limit items →
+      Says Inner (in_parentheses limit g) (bracketed (commas plain items)) items
+  bracketed_said limit g plain said items w = (
     mark kind.Open ∷ [],
     commas plain items ++ mark kind.Close ∷ [],
     0,
     items,
     refl,
     (mark kind.Open, refl, refl, refl),
-    (commas plain items, mark kind.Close ∷ [], items, 0, refl, maybe_said g plain said items, (mark kind.Close, refl, refl, refl), refl),
+    (commas plain items, mark kind.Close ∷ [], items, 0, refl, maybe_said limit g plain said items w, (mark kind.Close, refl, refl, refl), refl),
     refl,
   )
+
+  -- where there is no limit
+  unlimited : {A : Type 0} (items : List A) → AreWithin None items
+  unlimited [] = tt
+  unlimited (a ∷ items) = tt
+
+  limited : {A : Type 0} (limit : ℕ) (items : List A) → length items ≤ limit → AreWithin (Some limit) items
+  limited limit [] le = tt
+  limited limit (a ∷ items) le = le
+
+  pub limited_said : {A : Type 0} (limit : ℕ) (g : Rule A) (plain : A → List Token) → ((a : A) → Says Inner g (plain a) a) → (items : List A) → length items ≤ limit →
+      Says Inner (in_parentheses (Some limit) g) (bracketed (commas plain items)) items
+  limited_said limit g plain said items le = bracketed_said (Some limit) g plain said items (limited limit items le)
 
   vals_said : (v : Values) → Says Inner rule.vals (plain_values v) v
   unfolding rule.vals rule.vals_behind
@@ -123,7 +142,7 @@ module _ (Inner : List Token → List RawStep → Type 0) where
     v.list,
     refl,
     (mark_at kind.Open v.at, refl, refl, refl),
-    (one_by_one plain_lit v.list, mark kind.Close ∷ [], v.list, 0, refl, maybe_said rule.lit (λ l. plain_lit l ∷ []) (λ l. lit_said l.val l.at) v.list, (mark kind.Close, refl, refl, refl), refl),
+    (one_by_one plain_lit v.list, mark kind.Close ∷ [], v.list, 0, refl, maybe_said None rule.lit (λ l. plain_lit l ∷ []) (λ l. lit_said l.val l.at) v.list (unlimited v.list), (mark kind.Close, refl, refl, refl), refl),
     refl,
   )
 
@@ -159,9 +178,9 @@ module _ (Inner : List Token → List RawStep → Type 0) where
 
   cols_said : (ws : List Spanned) → Says Inner rule.cols (bracketed (one_by_one plain_name ws)) ws
   unfolding rule.cols
-  cols_said ws = bracketed_said rule.name (λ w. plain_name w ∷ []) name_said ws
+  cols_said ws = bracketed_said None rule.name (λ w. plain_name w ∷ []) name_said ws (unlimited ws)
 
-  ine_said : (b : Bool) → Says Inner rule.ine (plain_ine b) b
+  pub ine_said : (b : Bool) → Says Inner rule.ine (plain_ine b) b
   unfolding rule.ine
   ine_said false = inl (refl, refl)
   ine_said true = inr (

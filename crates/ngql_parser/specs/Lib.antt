@@ -14,3 +14,4 @@ pub mod Alike
 pub mod Laws
 pub mod Plain
 pub mod PlainReads
+pub mod PlainDefines

@@ -1,5 +1,5 @@
 -- Lines in their plain form, as tokens: each rank, option and nullness is written, and each condition with all its parentheses.
-use Rattle.std.specs.Prelude.{◌≤◌, ◌<◌, ℕ, ℤ, pos, Bool, true, false, List, [], ◌∷◌, ◌++◌, length, Some}
+use Rattle.std.specs.Prelude.{◌≤◌, ◌<◌, ℕ, ℤ, pos, Bool, true, false, List, [], ◌∷◌, ◌++◌, length, Some, if◌then◌else◌}
 use Rattle.graph_model.specs.declared.val.Val.{Val}
 use Rattle.graph_model.specs.declared.val.Val.TheVariants as val
 use Rattle.ngql_syntax.specs.declared.cond.Rel.{Rel}
@@ -19,11 +19,23 @@ use Rattle.ngql_syntax.specs.declared.spanned.Spanned.{Spanned}
 use Rattle.ngql_parser.specs.declared.kind.Kind.{Kind}
 use Rattle.ngql_parser.specs.declared.kind.Kind.TheVariants as kind
 use Rattle.ngql_parser.specs.declared.token.Token.{Token}
-use Rattle.ngql_parser.specs.Tokens.{int_kind}
+use Rattle.ngql_parser.specs.Tokens.{int_kind, is_kind}
+use Rattle.ngql_parser.specs.Words.{words}
 
--- a word or a mark; a name; a number
+-- the word of a kind by a table
+abbrev pub word_for : List (List ℕ × Kind) → Kind → List ℕ
+word_for [] k = []
+word_for (entry ∷ table) k = if is_kind entry.1 k then entry.0 else word_for table k
+
+-- the kind of a token by itself: `properties` is one word, whosever they are
+abbrev pub alone : Kind → Kind
+alone kind.EdgePropsCall = kind.PropsCall
+alone kind.VertexPropsCall = kind.PropsCall
+alone k = k
+
+-- a word or a mark, of which those that may be names spell themselves; a name; a number
 abbrev pub mark_at : Kind → ℕ → Token
-mark_at k at = record { kind = k; number = pos 0; text = []; at = at }
+mark_at k at = record { kind = k; number = pos 0; text = word_for words (alone k); at = at }
 
 abbrev pub mark : Kind → Token
 mark k = mark_at k 0

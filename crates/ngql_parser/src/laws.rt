@@ -1,17 +1,21 @@
 //! What changes nothing in a line: laws of what its tokens spell.
-ghost use Rattle.std.specs.Prelude.{◌≡◌, ℕ, true, false, List, [], ◌∷◌, ◌++◌, Option, nat_eq};
+ghost use Rattle.std.specs.Prelude.{◌≡◌, ◌≤◌, ℕ, Bool, true, false, List, [], ◌∷◌, ◌++◌, length, Option, nat_eq};
 ghost use Rattle.ngql_lex.specs.Lines.{without_cr};
 ghost use Rattle.ngql_parser.specs.Alike.{SameLine};
 ghost use Rattle.ngql_parser.specs.Kinds.{code};
 ghost use Rattle.ngql_parser.specs.Laws.{ends_in};
 ghost use Rattle.ngql_parser.specs.Plain.{AreEnds, IsId, IsOfEdge, IsWritable, Condition, AreOfEdge, steps_of, plain_condition, plain_edges, plain_vertices};
 ghost use Rattle.grammar.specs.Language.{Spelled};
+ghost use Rattle.ngql_parser.specs.PlainDefines.{AreOptions, plain_space, plain_tag, plain_edge_type};
 ghost use Rattle.ngql_parser.specs.PlainReads.{plain_use, plain_del_vertex, plain_del_edge, plain_fetch_vertex, plain_fetch_edge, plain_go, IsGo, AreOthers, IsShown, IsOfVertex};
 ghost use Rattle.ngql_parser.specs.Places.{bare_line};
 ghost use Rattle.ngql_parser.specs.Promise.{AreLine, Spells, Tokens};
 ghost use Rattle.ngql_parser.specs.Rules.{ngql, kind_of, stmt, cond};
 ghost use Rattle.ngql_parser.specs.declared.kind.Kind.TheVariants as kind;
+ghost use Rattle.ngql_parser.specs.declared.option.Options.{Options};
 ghost use Rattle.ngql_parser.specs.declared.token.Token.{Token};
+ghost use Rattle.ngql_syntax.specs.declared.define.Column.{Column};
+ghost use Rattle.ngql_syntax.specs.declared.define.Define.TheVariants as define;
 ghost use Rattle.ngql_syntax.specs.declared.expr.RawExpr.{RawExpr};
 ghost use Rattle.ngql_syntax.specs.declared.go.GoWords.{GoWords};
 ghost use Rattle.ngql_syntax.specs.declared.lit.Lit.{Lit};
@@ -37,6 +41,9 @@ pub fn same_words_say_the_same()
 
 /// A statement in its plain form is spelled by it, and so is a condition: so each is read back as itself.
 pub fn plain_is_read()
+    ensures spaces { (n : Spanned) (o : Options) (absent : Bool) → AreOptions o → Spelled ngql false stmt (plain_space n o absent) (statement.Make (define.Space n o.parts o.factor o.ids absent)) }
+    ensures tags { (n : Spanned) (columns : List Column) (absent : Bool) → length columns ≤ 32 → Spelled ngql false stmt (plain_tag n columns absent) (statement.Make (define.Tag n columns absent)) }
+    ensures edge_types { (n : Spanned) (columns : List Column) (absent : Bool) → length columns ≤ 32 → Spelled ngql false stmt (plain_edge_type n columns absent) (statement.Make (define.Edge n columns absent)) }
     ensures edges { (p : PutEdges) → IsWritable (λ (r : EdgeRow). AreEnds r.ends) p.rows → Spelled ngql false stmt (plain_edges p) (statement.PutEdge p) }
     ensures vertices { (p : PutVertices) → IsWritable (λ (r : VertexRow). IsId r.id.val) p.rows → Spelled ngql false stmt (plain_vertices p) (statement.PutVertex p) }
     ensures select { (n : Spanned) → Spelled ngql false stmt (plain_use n) (statement.Select n) }

@@ -14,8 +14,10 @@
 //! Conditions are read by a loop over the brackets that are open (`cond`), so no depth of brackets takes a stack of calls;
 //! `specs/Conds` says, by the rules, what is still to be read from where the loop stands.
 //!
-//! Laws ([`same_words_say_the_same`], [`semicolon_changes_nothing`], [`plain_is_read`]): what changes nothing in a line, and that a statement
-//! in its plain form is read back as itself (`specs/Alike`, `Places`, `Plain`, `PlainReads`).
+//! Laws, of what tokens spell and not of refusals: where a line is spelled, so is one of the same words, with keywords in another case and
+//! other blanks, and it says the same but for places ([`same_words_say_the_same`], `specs/Alike`, `Places`); a `;` at the end changes nothing
+//! ([`semicolon_changes_nothing`]); and the tokens of each statement in its plain form, and of each condition, spell it
+//! ([`plain_is_read`], `specs/Plain`, `PlainDefines`, `PlainReads`).
 //!
 //! Below are the tokens of `ngql_lex` and the statements of `ngql_syntax`; above is the schema book, which binds them.
 #![tactic(auto)]
