@@ -53,6 +53,7 @@ name_back n is =
     let long : length (text_of n) ≡ n.len = omega (arith, length-take n.len n.bytes, is.size, is.short) in
     ap (λ (p : List ℕ × ℕ). record { bytes = p.0; len = p.1 }) {x = (text_of n ++ zeros (32 - length (text_of n)), length (text_of n))} {y = (n.bytes, n.len)} (name_parts n long is.filled)
 
+-- n zeros are n bytes
 pub length-zeros : (n : ℕ) → length (zeros n) ≡ n
 length-zeros zero = refl
 length-zeros (suc n) = ap suc (length-zeros n)
@@ -105,6 +106,7 @@ tagged_within (zero ∷ bytes) = made_within (λ n. Num n) (signed_format w64 si
 tagged_within (suc zero ∷ bytes) = made_within (λ n. Name n) name_format (length (1 ∷ bytes)) bytes (omega arith)
 tagged_within (suc (suc kind) ∷ bytes) = rw (no_tagged (suc (suc kind)) bytes (omega arith)) (omega arith)
 
+-- an id behind its tag
 pub tagged_format : IsFormat tagged_at (vid Tagged) (FitsVid Tagged)
 tagged_format = record { takes = tagged_takes; again = tagged_again; within = tagged_within }
 

@@ -48,6 +48,7 @@ pub record AreFew (es : List EdgeId) : Type 0 where
   pub once : is_once_each es ≡ true
   pub positive : list_all is_positive es ≡ true
 
+-- what the test takes is such a list
 pub are_few : (es : List EdgeId) → are_edges es ≡ true → AreFew es
 are_few es are =
     let a = and_true (leb 1 (length es)) (leb (length es) 64 && (is_once_each es && list_all is_positive es)) are in
@@ -71,15 +72,18 @@ edges_have form (e ∷ es) positive have =
     let a = and_true (is_positive e) (list_all is_positive es) positive in
     ((have.0.0, above_true (pos 0) e.etype a.0, have.0.1), edges_have form es a.1 have.1)
 
+-- edges with their halves, of positive types, whose ends and values have a spelling have one
 pub halves_have : (form : IdForm) (list : List (EdgeId × Half)) → list_all is_positive (edges_in list) ≡ true → HasSpellingHalves form list → AllByRecursion (HasSpellingWhole form) list
 halves_have form [] positive have = tt
 halves_have form (x ∷ list) positive have =
     let a = and_true (is_positive x.0) (list_all is_positive (edges_in list)) positive in
     (((have.0.0.0, above_true (pos 0) x.0.etype a.0, have.0.0.1), have.0.1), halves_have form list a.1 have.1)
 
+-- each edge fits and stands once
 abbrev pub OnceEdges : IdForm → List EdgeId → Type 0
 OnceEdges form list = AreOnce (λ (e : EdgeId). e) (λ (es : List EdgeId). es) (FitsEdge form) edge_itself [] list
 
+-- each edge with its half fits, and the edge stands once
 abbrev pub OnceHalves : IdForm → List (EdgeId × Half) → Type 0
 OnceHalves form list = AreOnce (λ (x : EdgeId × Half). x.0) edges_in (FitsEdgeHalf form) edge_first [] list
 

@@ -22,9 +22,13 @@ use Rattle.graph_model.specs.declared.val.Val.TheVariants.{Null, Int, Flag, Word
 use Rattle.graph_model.specs.declared.vid.Vid.{Vid}
 use Rattle.graph_model.specs.declared.vid.Vid.TheVariants.{Num, Name}
 
+-- the greatest client, and the greatest part
+abbrev pub most_small : ℕ
+most_small = 64
+
 -- a client, or a part
 abbrev pub IsSmall : ℕ → Type 0
-IsSmall n = (0 < n) × (n ≤ 64)
+IsSmall n = (0 < n) × (n ≤ most_small)
 
 -- ---- what has a spelling, by what the types of the numbers don't say
 

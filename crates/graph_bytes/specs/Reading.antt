@@ -10,6 +10,7 @@ use Rattle.maps.specs.Keys.{has_key}
 use Rattle.graph_model.specs.Names.{name_of}
 use Rattle.graph_model.specs.Edges.{most_edges}
 use Rattle.graph_model.specs.Types.{most_types}
+use Rattle.graph_bytes.specs.Fits.{most_small}
 use Rattle.graph_bytes.specs.Names.{most_text}
 use Rattle.graph_bytes.specs.Kinds.{number_id, text_id, null_value, int_value, flag_value, words_value, absent_half, here_half, tag_query, edge_query, out_query, in_query, both_query, tag_found, edge_found}
 use Rattle.graph_bytes.specs.declared.id_form.IdForm.{IdForm}
@@ -91,7 +92,7 @@ edge_at form bytes = made_at edge_of (both_at (both_at (both_at (vid_at form) (t
 
 -- a client, or a part
 abbrev pub small_at : List ℕ → Result (ℕ × List ℕ) Misfit
-small_at bytes = id_at 64 0 bytes
+small_at bytes = id_at most_small 0 bytes
 
 -- the call of client and number
 abbrev pub call_of : (ℕ × ℕ) → CallId

@@ -9,6 +9,7 @@ ghost use Rattle.graph_bytes.specs.Reading.{type_at, edge_at, call_at};
 
 use crate::id_form::IdForm;
 use crate::ids::{put_vid, read_vid};
+use crate::kinds::MOST_SMALL;
 use byte_fields::{Misfit, Writer, read_i32, read_i64, read_id, read_u64};
 use graph_model::{CallId, EdgeId};
 use lists::NoMemory;
@@ -60,7 +61,7 @@ pub fn read_edge(bytes: &[u8], form: IdForm) -> Result<(EdgeId, &[u8]), Misfit>
 pub fn read_call(bytes: &[u8]) -> Result<(CallId, &[u8]), Misfit>
     ensures { Reads (λ x. (x.0, x.1.now)) result (call_at bytes.now) }
 {
-    let (client, rest) = read_id(bytes, 0, 64)?;
+    let (client, rest) = read_id(bytes, 0, MOST_SMALL)?;
     let (number, rest) = read_u64(rest)?;
     Ok((CallId { client, number }, rest))
 }

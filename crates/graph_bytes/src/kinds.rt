@@ -1,5 +1,8 @@
 //! The first bytes of what has kinds.
 
+/// The greatest client, and the greatest part.
+pub const MOST_SMALL: u32 = 64;
+
 /// An id that is a number.
 pub(crate) const NUMBER_ID: u8 = 0;
 
