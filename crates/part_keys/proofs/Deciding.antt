@@ -20,6 +20,7 @@ dec_change form (ops.PutEdges rows absent) = dec_never
 dec_change form (ops.DelEdges list) = dec_never
 dec_change form (ops.Read q) = dec_never
 
+-- an entry has a spelling in this form, or it has none
 pub dec_entry : (form : IdForm) (e : PartEntry) → Dec (Fits form e)
 dec_entry form (Prime id list absent) = dec_both (dec_call id) (dec_halves form list)
 dec_entry form (Local v) = dec_lt v (2 ^ 64)

@@ -30,6 +30,7 @@ all_zero (x ∷ xs) all =
     let o = and_true (eqb x 0) (list_all (λ b. eqb b 0) xs) all in
     ap (λ (b : ℕ). b ∷ xs) (eqb-true x 0 o.0) ∙ ap (λ (ys : List ℕ). 0 ∷ ys) (all_zero xs o.1)
 
+-- zeros are all 0
 pub zeros-all : (n : ℕ) → list_all (λ b. eqb b 0) (zeros n) ≡ true
 zeros-all zero = refl
 zeros-all (suc n) = zeros-all n
@@ -58,6 +59,7 @@ pub record IsFilled (most : ℕ) (run : List ℕ) (len : ℕ) : Type 0 where
   pub parts : run ≡ take len run ++ zeros (most - len)
   pub utf8 : IsUtf8 (take len run)
 
+-- what the test takes is such a field
 pub filled_of : (most : ℕ) (run : List ℕ) (len : ℕ) → length run ≡ most → is_text most (run, len) ≡ true → IsFilled most run len
 filled_of most run len size is =
     let a = and_true (leb len most) (is_utf8 (take len run) && list_all (λ b. eqb b 0) (drop len run)) is in
@@ -91,6 +93,7 @@ pub record IsNamed (most : ℕ) (run : List ℕ) (name : names.Name) : Type 0 wh
   pub short : name.len ≤ most
   pub front : take most name.bytes ≡ run
 
+-- such a field names the text in it
 pub name_of_filled : (most : ℕ) (run : List ℕ) (len : ℕ) → most ≤ 32 → IsFilled most run len → IsNamed most run (name_of (take len run))
 name_of_filled most run len small is =
     let t = take len run in
@@ -108,6 +111,7 @@ text_in most n small is short =
     let long : length (text_of n) ≡ n.len = omega (arith, length-take n.len n.bytes, is.size, is.short) in
     ap (take n.len) (front_of most n small is short) ∙ take_at (text_of n) (zeros (most - n.len)) n.len long
 
+-- the field of a name passes the test
 pub text_is : (most : ℕ) (n : names.Name) → most ≤ 32 → IsName n → n.len ≤ most → is_text most (take most n.bytes, n.len) ≡ true
 text_is most n small is short =
     let long : length (text_of n) ≡ n.len = omega (arith, length-take n.len n.bytes, is.size, is.short) in
@@ -116,6 +120,7 @@ text_is most n small is short =
     let behind : drop n.len (take most n.bytes) ≡ zeros (most - n.len) = ap (drop n.len) front ∙ drop_at (text_of n) (zeros (most - n.len)) n.len long in
     rw (text, behind, le-leb n.len most short, is_utf8-from_IsUtf8 (text_of n) is.utf8) (zeros-all (most - n.len))
 
+-- the field of a name, filled up to 32 bytes, is the name's bytes
 pub name_again : (most : ℕ) (n : names.Name) → most ≤ 32 → IsName n → n.len ≤ most → take most n.bytes ++ zeros (32 - most) ≡ n.bytes
 name_again most n small is short =
     ap (λ (x : List ℕ). x ++ zeros (32 - most)) (front_of most n small is short) ∙ filled_more most (text_of n) n.len short small ∙ sym is.filled

@@ -17,9 +17,11 @@ pub record IsOrdered (w : Width) : Type 0 where
   at_neg : (n : ℕ) → FitsSigned w (negsuc n) → flip w (cast_unsigned w (negsuc n)) + suc n ≡ half
   small : (z : ℤ) → flip w (cast_unsigned w z) < 256 ^ byte_len w
 
+-- flipped numbers of 32 bits stand so
 pub ordered32 : IsOrdered w32
 ordered32 = record { half = 2147483648; at_pos = λ n fits. omega (arith, fits.sfits); at_neg = λ n fits. omega (arith, fits.sfits); small = λ z. omega arith }
 
+-- flipped numbers of 64 bits stand so
 pub ordered64 : IsOrdered w64
 ordered64 = record { half = 9223372036854775808; at_pos = λ n fits. omega (arith, fits.sfits); at_neg = λ n fits. omega (arith, fits.sfits); small = λ z. omega arith }
 
@@ -43,6 +45,7 @@ flip_cmp w is (negsuc n) (negsuc m) z-fits y-fits =
       ]
     ]
 
+-- bytes of flipped numbers are ordered by the numbers, then by what follows
 pub flipped_cmp : (w : Width) (is : IsOrdered w) (z y : ℤ) (a b : List ℕ) → FitsSigned w z → FitsSigned w y → bytes_cmp (flipped w z ++ a) (flipped w y ++ b) ≡ ordering_then (int_cmp z y) (bytes_cmp a b)
 flipped_cmp w is z y a b z-fits y-fits =
     number_cmp (byte_len w) (flip w (cast_unsigned w z)) (flip w (cast_unsigned w y)) a b (is.small z) (is.small y)

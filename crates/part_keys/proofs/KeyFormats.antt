@@ -130,6 +130,7 @@ form_format ids is-kind =
 
 -- ---- in-edges and out-edges
 
+-- a number turned twice is itself
 pub neg_neg : (t : ℤ) → neg_ℤ (neg_ℤ t) ≡ t
 neg_neg (pos zero) = refl
 neg_neg (pos (suc n)) = refl
@@ -166,9 +167,11 @@ seen_by ids f fits false out either =
 seen_is : (ids : VidKind) (f : ℕ × EdgeId) → FitsForm ids f → is_either f ≡ true → (2 ∷ edge_form ids f.0 f.1 ≡ key ids (seen_key f)) × FitsKey ids (seen_key f)
 seen_is ids f fits either = seen_by ids f fits (int_lt (pos 0) f.1.etype) refl either
 
+-- an edge that has a key is seen as it is by the part of its source
 pub form_of_edge : (ids : VidKind) (part : ℕ) (e : EdgeId) → IsSmall part × FitsKeyEdge ids e → FitsForm ids (part, e)
 form_of_edge ids part e fits = record { part = fits.0; src = fits.1.src; etype = fits.1.etype; rank = fits.1.rank; dst = fits.1.dst }
 
+-- an edge that has a key is seen turned by the part of its other end
 pub form_of_turned : (ids : VidKind) (part : ℕ) (e : EdgeId) → IsSmall part × FitsKeyEdge ids e → FitsForm ids (part, turned e)
 form_of_turned ids part e fits = record { part = fits.0; src = fits.1.dst; etype = (is_back e.etype fits.1.etype fits.1.is).fits; rank = fits.1.rank; dst = fits.1.src }
 
@@ -234,5 +237,6 @@ key_within ids is-kind (suc (suc (suc (suc (suc zero)))) ∷ bytes) = made_withi
 key_within ids is-kind (suc (suc (suc (suc (suc (suc zero))))) ∷ bytes) = made_within (λ x. Client x.0 x.1) (both_format part_format small_format) (length (6 ∷ bytes)) bytes (omega arith)
 key_within ids is-kind (suc (suc (suc (suc (suc (suc (suc kind)))))) ∷ bytes) = rw (no_key ids is-kind (suc (suc (suc (suc (suc (suc (suc kind))))))) bytes (omega arith)) (omega arith)
 
+-- a key
 pub key_format : (ids : VidKind) (is-kind : IsKind ids) → IsFormat (key_at ids) (key ids) (FitsKey ids)
 key_format ids is-kind = record { takes = key_takes ids is-kind; again = key_again ids is-kind; within = key_within ids is-kind }

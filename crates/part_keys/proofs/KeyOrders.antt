@@ -149,6 +149,7 @@ module _ (ids : VidKind) (is-kind : IsKind ids) where
       part_cmp p q (number 4 client) (number 4 other) (nat_cmp client other) a.0 b.0 (number_last 4 client other (client_small client a.1) (client_small other b.1))
   keys_by (Client p client) _ a b = refl
 
+-- bytes of keys are ordered as their fields
 pub keys_order : (ids : VidKind) → IsKind ids → (k l : Key) → FitsKey ids k → FitsKey ids l → bytes_cmp (key ids k) (key ids l) ≡ key_cmp k l
 keys_order ids is-kind k l a b = keys_by ids is-kind k l a b
 
@@ -159,9 +160,11 @@ within_part : (kind p : ℕ) (rest : Ordering) → ordering_then (nat_cmp kind k
 within_part kind p rest =
     ap (λ (o : Ordering). ordering_then o (ordering_then (nat_cmp p p) rest)) (cmp_equal kind kind refl) ∙ ap (λ (o : Ordering). ordering_then o rest) (cmp_equal p p refl)
 
+-- within one part, keys of out-halves are ordered as edges
 pub out_order : (ids : VidKind) → IsKind ids → (p : ℕ) (e f : EdgeId) → FitsKey ids (OutEdge p e) → FitsKey ids (OutEdge p f) → bytes_cmp (key ids (OutEdge p e)) (key ids (OutEdge p f)) ≡ edge_cmp e f
 out_order ids is-kind p e f a b = keys_order ids is-kind (OutEdge p e) (OutEdge p f) a b ∙ within_part 2 p (edge_cmp e f)
 
+-- within one part, keys of tags are ordered as vertex and tag
 pub tag_order : (ids : VidKind) → IsKind ids → (p : ℕ) (v u : Vid) (tag mark : ℕ) → FitsKey ids (Tag p v tag) → FitsKey ids (Tag p u mark) → bytes_cmp (key ids (Tag p v tag)) (key ids (Tag p u mark)) ≡ tag_cmp (tag_at v tag) (tag_at u mark)
 tag_order ids is-kind p v u tag mark a b = keys_order ids is-kind (Tag p v tag) (Tag p u mark) a b ∙ within_part 1 p (tag_cmp (tag_at v tag) (tag_at u mark))
 
@@ -181,5 +184,6 @@ type_again t s Equal rank far is =
 turned_cmp : (e f : EdgeId) → edge_cmp (turned e) (turned f) ≡ in_cmp (in_key e) (in_key f)
 turned_cmp e f = ap (ordering_then (vid_cmp e.dst f.dst)) (type_again e.etype f.etype (int_cmp (neg_ℤ e.etype) (neg_ℤ f.etype)) (int_cmp e.rank f.rank) (vid_cmp e.src f.src) refl)
 
+-- within one part, keys of in-halves are ordered as in-halves
 pub in_order : (ids : VidKind) → IsKind ids → (p : ℕ) (e f : EdgeId) → FitsKey ids (InEdge p e) → FitsKey ids (InEdge p f) → bytes_cmp (key ids (InEdge p e)) (key ids (InEdge p f)) ≡ in_cmp (in_key e) (in_key f)
 in_order ids is-kind p e f a b = keys_order ids is-kind (InEdge p e) (InEdge p f) a b ∙ within_part 2 p (edge_cmp (turned e) (turned f)) ∙ turned_cmp e f

@@ -14,6 +14,10 @@ use Rattle.part_keys.specs.declared.key.Key.TheVariants.{Tag, OutEdge, InEdge, P
 use Rattle.part_keys.specs.declared.vid_kind.VidKind.{VidKind}
 use Rattle.part_keys.specs.declared.vid_kind.VidKind.TheVariants as kinds
 
+-- the most bytes of a key: kind, part, two texts of 32 bytes with their lengths, type, rank and placeholder
+abbrev pub most_key : ℕ
+most_key = 83
+
 -- a number of the width with its highest bit flipped
 abbrev pub flip : Width → ℕ → ℕ
 flip w n = (n + 2 ^ hbits w) % 2 ^ bits w

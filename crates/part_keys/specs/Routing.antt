@@ -16,14 +16,22 @@ use Rattle.part_keys.specs.declared.entry.PartEntry.TheVariants.{Prime, Local, D
 use Rattle.part_keys.specs.declared.vid_kind.VidKind.{VidKind}
 use Rattle.part_keys.specs.Kinds.{is_entry_of}
 
+-- what the hash of a text begins with (FNV-1a of 64 bits)
+abbrev pub fnv_basis : ℕ
+fnv_basis = 14695981039346656037
+
+-- what it is multiplied by at each byte
+abbrev pub fnv_prime : ℕ
+fnv_prime = 1099511628211
+
 -- the hash of a text, from a hash so far: each byte is combined by exclusive or, then it is multiplied, modulo 2^64
 abbrev pub hashed : ℕ → List ℕ → ℕ
 hashed hash [] = hash
-hashed hash (byte ∷ bytes) = hashed ((bit_xor hash byte * 1099511628211) % 2 ^ 64) bytes
+hashed hash (byte ∷ bytes) = hashed ((bit_xor hash byte * fnv_prime) % 2 ^ 64) bytes
 
 -- the hash of a text (FNV-1a of 64 bits)
 abbrev pub hash_of : List ℕ → ℕ
-hash_of bytes = hashed 14695981039346656037 bytes
+hash_of bytes = hashed fnv_basis bytes
 
 -- a number as an unsigned one of 64 bits, and the hash of a text
 abbrev pub id_number : Vid → ℕ

@@ -15,6 +15,7 @@ use crate::entry_kinds::{
     PUT_CHANGE, READ_ENTRY, REMOTE_ENTRY, VERTEX_ENTRY,
 };
 use crate::refused::EntryRefused;
+use crate::room::entry_room;
 use byte_fields::{Misfit, ReadRefused, Writer, read_flag, read_id, read_u64};
 use graph_bytes::{
     IdForm, put_call, put_edges, put_halves, put_query, put_row, put_vid, read_call, read_edges,
@@ -265,7 +266,7 @@ pub fn write_entry(alloc: Global, e: &PartEntry, version: u8) -> Result<Bytes, N
     ensures ok { IfOk result (λ bytes. bytes ≡ entry (form_of version) e.now) }
     ensures fits { OnOk result (Fits (form_of version) e.now) }
 {
-    let mut out = Writer::new(alloc);
+    let mut out = Writer::with_room(alloc, entry_room(e))?;
     put_entry(&mut out, e, form_of_version(version))?;
     Ok(out.into_bytes())
 }

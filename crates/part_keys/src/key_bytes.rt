@@ -1,27 +1,28 @@
 //! The bytes of a key.
-ghost use Rattle.std.specs.Prelude.{◌≡◌, ◌≤◌, ◌<◌, ◌+◌, ◌++◌, ◌∷◌, [], length, FitsSigned};
-ghost use Rattle.std.specs.Int.{w32, w64, cast_unsigned};
-ghost use Rattle.byte_fields.specs.Fields.{number};
-ghost use Rattle.part_keys.specs.Keys.{flip, flipped};
+ghost use Rattle.std.specs.Prelude.{◌≡◌, ◌≤◌, ◌+◌, ◌++◌, [], length};
+ghost use Rattle.part_keys.specs.Keys.{most_key};
 
-use byteorder::{BigEndian, ByteOrder};
 use std::marker::Model;
+
+/// The most bytes of a key: its kind, a part, two texts of 32 bytes with their lengths, a type, a rank and a placeholder.
+const MOST_KEY: usize = 83;
 
 /// The bytes of a key, at most 83; contracts see the list of them.
 #[derive(Drop)]
 pub struct KeyBytes {
-    bytes: [u8; 83],
+    bytes: [u8; MOST_KEY],
     len: usize,
 }
 
 impl Model for KeyBytes {
     ghost use Rattle.std.specs.Prelude.{List, ℕ, ◌≤◌, take};
+    ghost use Rattle.part_keys.specs.Keys.{most_key};
 
     ghost Value = { List ℕ };
 
     ghost view = { λ k. take k.len k.bytes };
 
-    ghost invariant = { λ k. k.len ≤ 83 };
+    ghost invariant = { λ k. k.len ≤ most_key };
 }
 
 impl KeyBytes {
@@ -30,7 +31,7 @@ impl KeyBytes {
         ensures { result ≡ [] }
     {
         KeyBytes {
-            bytes: [0; 83],
+            bytes: [0; MOST_KEY],
             len: 0,
         }
     }
@@ -44,7 +45,7 @@ impl KeyBytes {
 
     /// Puts bytes behind the others.
     pub fn put_run(&mut self, run: &[u8])
-        requires { length self.old + length run.now ≤ 83 }
+        requires { length self.old + length run.now ≤ most_key }
         ensures put { self.new ≡ self.old ++ run.now }
         ensures grows { length self.new ≡ length self.old + length run.now }
     {

@@ -1,13 +1,12 @@
 //! Writing keys.
-ghost use Rattle.std.specs.Prelude.{◌≡◌, ◌≤◌, ◌<◌, ◌+◌, ◌++◌, ◌∷◌, [], length, FitsSigned};
+ghost use Rattle.std.specs.Prelude.{◌≡◌, ◌≤◌, ◌<◌, ◌+◌, ◌++◌, length, FitsSigned};
 ghost use Rattle.std.specs.Int.{w32, w64, cast_unsigned};
 ghost use Rattle.byte_fields.specs.Fields.{number};
 ghost use Rattle.std.specs.Prelude.{pos, neg_ℤ, ◌<ℤ◌};
-ghost use Rattle.graph_bytes.specs.Fits.{IsSmall};
 ghost use Rattle.graph_model.specs.declared.edge_id.EdgeId.{EdgeId};
 ghost use Rattle.part_keys.specs.declared.key.Key.TheVariants as keys;
 ghost use Rattle.part_keys.specs.Routing.{part_of as number_of_part};
-ghost use Rattle.part_keys.specs.Keys.{flip, flipped, vertex, key, IsKind, IsOf, IsOfKind, FitsKey};
+ghost use Rattle.part_keys.specs.Keys.{most_key, flipped, vertex, key, IsKind, IsOf, IsOfKind, FitsKey};
 
 use crate::key::{EDGE_KIND, TAG_KIND};
 use crate::key_bytes::KeyBytes;
@@ -19,7 +18,7 @@ use graph_model::{EdgeId, Vid};
 // Puts a part.
 #[tactic(auto, unfolding(byte_fields::specs::Fields::number))]
 fn put_part(out: &mut KeyBytes, part: u32)
-    requires room { length out.old + 3 ≤ 83 }
+    requires room { length out.old + 3 ≤ most_key }
     requires small { part < 65536 }
     ensures put { out.new ≡ out.old ++ number 3 part }
     ensures grows { length out.new ≡ length out.old + 3 }
@@ -32,7 +31,7 @@ fn put_part(out: &mut KeyBytes, part: u32)
 // Puts a number of 4 bytes.
 #[tactic(auto, unfolding(byte_fields::specs::Fields::number))]
 fn put_u32(out: &mut KeyBytes, n: u32)
-    requires { length out.old + 4 ≤ 83 }
+    requires { length out.old + 4 ≤ most_key }
     ensures put { out.new ≡ out.old ++ number 4 n }
     ensures grows { length out.new ≡ length out.old + 4 }
 {
@@ -44,7 +43,7 @@ fn put_u32(out: &mut KeyBytes, n: u32)
 // Puts a signed number of 8 bytes with its sign bit flipped.
 #[tactic(auto, unfolding(byte_fields::specs::Fields::number))]
 fn put_i64(out: &mut KeyBytes, n: &i64)
-    requires { length out.old + 8 ≤ 83 }
+    requires { length out.old + 8 ≤ most_key }
     ensures put { out.new ≡ out.old ++ flipped w64 n.now }
     ensures fits { FitsSigned w64 n.now }
     ensures grows { length out.new ≡ length out.old + 8 }
@@ -57,7 +56,7 @@ fn put_i64(out: &mut KeyBytes, n: &i64)
 // Puts a signed number of 4 bytes with its sign bit flipped.
 #[tactic(auto, unfolding(byte_fields::specs::Fields::number))]
 fn put_i32(out: &mut KeyBytes, n: &i32)
-    requires { length out.old + 4 ≤ 83 }
+    requires { length out.old + 4 ≤ most_key }
     ensures put { out.new ≡ out.old ++ flipped w32 n.now }
     ensures fits { FitsSigned w32 n.now }
     ensures grows { length out.new ≡ length out.old + 4 }
@@ -71,7 +70,7 @@ fn put_i32(out: &mut KeyBytes, n: &i32)
 fn put_vertex(out: &mut KeyBytes, v: &Vid, ids: VidKind)
     requires kind { IsKind ids }
     requires of { IsOfKind ids v.now }
-    requires room { length out.old + 33 ≤ 83 }
+    requires room { length out.old + 33 ≤ most_key }
     ensures put { out.new ≡ out.old ++ vertex ids v.now }
     ensures fits { IsOf ids v.now }
     ensures grows { length out.new ≤ length out.old + 33 }

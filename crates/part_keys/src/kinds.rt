@@ -1,6 +1,5 @@
 //! Which ids a space takes, and so which entries.
 ghost use Rattle.std.specs.Prelude.{◌≡◌};
-ghost use Rattle.std.specs.List.{list_all};
 ghost use Rattle.graph_model.specs.declared.edge_id.EdgeId.{EdgeId};
 ghost use Rattle.graph_model.specs.declared.half.Half.{Half};
 ghost use Rattle.part_keys.specs.Kinds.{is_id_of, is_edge_of, are_edges_of, are_halves_of, is_query_of, is_change_of, is_entry_of};

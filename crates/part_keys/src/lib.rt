@@ -29,6 +29,7 @@ mod part;
 mod proposal;
 mod reading_keys;
 mod refused;
+mod room;
 mod routing;
 mod vid_kind;
 
@@ -45,5 +46,6 @@ pub use part::part_of;
 pub use proposal::Proposal;
 pub use reading_keys::read_key;
 pub use refused::EntryRefused;
+pub use room::{edges_room, entry_room, halves_room};
 pub use routing::{belongs, is_payload, part_of_query};
 pub use vid_kind::VidKind;

@@ -4,13 +4,19 @@ ghost use Rattle.part_keys.specs.Routing.{hash_of, id_number, part_of as number_
 
 use graph_model::Vid;
 
+/// What the hash of a text begins with (FNV-1a of 64 bits).
+const FNV_BASIS: u64 = 14695981039346656037;
+
+/// What the hash of a text is multiplied by at each byte.
+const FNV_PRIME: u64 = 1099511628211;
+
 // The hash of a text (FNV-1a of 64 bits): each byte is combined by exclusive or, then it is multiplied.
 fn hash_of_text(text: &[u8]) -> u64
     ensures { result ≡ hash_of text.now }
 {
-    let mut hash: u64 = 14695981039346656037;
+    let mut hash = FNV_BASIS;
     for byte in text {
-        hash = (hash ^ (*byte as u64)).wrapping_mul(1099511628211);
+        hash = (hash ^ (*byte as u64)).wrapping_mul(FNV_PRIME);
     }
     hash
 }
