@@ -135,6 +135,7 @@ item_again (Payload bytes) fits = refl
 
 -- ---- entries
 
+-- an entry that is read is spelled by the bytes that were taken
 pub entry_takes : (bytes : List ℕ) (e : Entry) (rest : List ℕ) → IsBytes bytes → entry_at bytes ≡ Ok (e, rest) → Takes bytes (entry e) rest × FitsEntry e
 unfolding entry_at
 entry_takes bytes x rest fits e =
@@ -151,12 +152,14 @@ entry_takes bytes x rest fits e =
     let is : FitsEntry made.0 = record { term = t.1; len = subst (λ (n : ℕ). n < 2 ^ 32) (sym v.2) u.1; item_fits = v.1 } in
     subst (λ (p : Entry × List ℕ). Takes bytes (entry p.0) p.1 × FitsEntry p.0) (ok_is made (x, rest) d.2) (all, is)
 
+-- an entry's spelling is read again, whatever follows it
 pub entry_again : (e : Entry) (rest : List ℕ) → FitsEntry e → entry_at (entry e ++ rest) ≡ Ok (e, rest)
 unfolding entry_at
 entry_again e rest fits =
     let regrouped : entry e ++ rest ≡ number 8 e.term ++ (number 4 (length (item e.item)) ++ (item e.item ++ rest)) = append_assoc (number 8 e.term ++ number 4 (length (item e.item))) (item e.item) rest ∙ append_assoc (number 8 e.term) (number 4 (length (item e.item))) (item e.item ++ rest) in
     rw (regrouped, number_again 8 e.term (number 4 (length (item e.item)) ++ (item e.item ++ rest)) fits.term, number_again 4 (length (item e.item)) (item e.item ++ rest) fits.len, inside_again item_of item FitsItem item_again e.item rest fits.item_fits) refl
 
+-- entries that are read are spelled by the bytes that were taken
 pub entries_takes : (bytes : List ℕ) (es : List Entry) (rest : List ℕ) → IsBytes bytes → entries_at bytes ≡ Ok (es, rest) → Takes bytes (entries es) rest × FitEntries es
 unfolding entries_at
 entries_takes bytes es rest fits e =
@@ -166,6 +169,7 @@ entries_takes bytes es rest fits e =
     let both = Takes-then bytes (number 4 a.0.0) a.0.1 (flat_map entry es) rest t.0 u.0 in
     (subst (λ (n : ℕ). Takes bytes (number 4 n ++ flat_map entry es) rest) (sym u.2) both, record { count = subst (λ (n : ℕ). n < 2 ^ 32) (sym u.2) t.1; each = u.1 })
 
+-- the spelling of entries is read again, whatever follows it
 pub entries_again : (es : List Entry) (rest : List ℕ) → FitEntries es → entries_at (entries es ++ rest) ≡ Ok (es, rest)
 unfolding entries_at
 entries_again es rest fits =
@@ -173,6 +177,7 @@ entries_again es rest fits =
 
 -- ---- bodies
 
+-- a record that is read is spelled by the bytes that were taken
 pub body_takes : (bytes : List ℕ) (r : Record) (rest : List ℕ) → IsBytes bytes → body_at bytes ≡ Ok (r, rest) → Takes bytes (body r) rest × FitsRecord r
 unfolding body_at
 body_takes bytes r rest fits e =
@@ -191,6 +196,7 @@ body_takes bytes r rest fits e =
     let is : FitsRecord made.0 = record { term = t.1; vote = u.1; keep = v.1; entries_fit = w.1 } in
     subst (λ (p : Record × List ℕ). Takes bytes (body p.0) p.1 × FitsRecord p.0) (ok_is made (r, rest) d.2) (four, is)
 
+-- a record's body is read again, whatever follows it
 pub body_again : (r : Record) (rest : List ℕ) → FitsRecord r → body_at (body r ++ rest) ≡ Ok (r, rest)
 unfolding body_at
 body_again r rest fits =

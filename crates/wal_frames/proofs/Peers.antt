@@ -13,6 +13,7 @@ pub record IsAbove (others : List ℕ) (low id : ℕ) : Type 0 where
   pub fits : id < 2 ^ 32
   pub apart : list_any (λ peer. peer == id) others ≡ false
 
+-- a peer that is read is one
 pub peer_above : (others : List ℕ) (low : ℕ) (bytes : List ℕ) (id : ℕ) (rest : List ℕ) → peer_at others low bytes ≡ Ok (id, rest) → IsAbove others low id
 unfolding peer_at
 peer_above others low bytes id rest e =

@@ -9,12 +9,14 @@ use Rattle.raft_log.specs.declared.entry.Item.TheVariants.{NoOp, Members}
 use Rattle.wal_frames.proofs.OtherKinds.{no_item}
 use Rattle.wal_frames.specs.Reading.{peer_at, peers_at, config_at, item_of, entry_at, entries_at, body_at}
 
+-- a peer
 pub peer_within : (others : List ℕ) (low : ℕ) (bytes : List ℕ) → IsWithin (length bytes) (peer_at others low bytes)
 unfolding peer_at
 peer_within others low bytes =
     within_then (length bytes) (id_at 4294967295 low bytes) (λ id. cond (list_any (λ peer. peer == id.0) others) (Err (misfit bytes)) (Ok id)) (id_within 4294967295 low bytes)
     (λ id le. guard_within (list_any (λ peer. peer == id.0) others) bytes (length bytes) (Ok id) (omega arith) le)
 
+-- peers behind their count
 pub peers_within : (others : List ℕ) (room : ℕ) (bytes : List ℕ) → IsWithin (length bytes) (peers_at others room bytes)
 unfolding peers_at
 peers_within others room bytes =
@@ -22,6 +24,7 @@ peers_within others room bytes =
     (λ count le. guard_within (ltb room count.0) bytes (length bytes) (rising_at (peer_at others) count.0 0 count.1) (omega arith)
     (within_less (length count.1) (length bytes) (rising_at (peer_at others) count.0 0 count.1) le (rising_within (peer_at others) (peer_within others) count.0 0 count.1)))
 
+-- voters and learners
 pub config_within : (bytes : List ℕ) → IsWithin (length bytes) (config_at bytes)
 unfolding config_at
 config_within bytes =
@@ -37,6 +40,7 @@ members_within : (n k : ℕ) (r : Result Config Misfit) → k ≤ n → FaultIsW
 members_within n k (Ok c) le h = tt
 members_within n k (Err m) le h = omega (arith, h)
 
+-- an item
 pub item_within : (bytes : List ℕ) → FaultIsWithin (length bytes) (item_of bytes)
 unfolding item_of byte_at
 item_within [] = omega arith
@@ -45,6 +49,7 @@ item_within (suc zero ∷ rest) = members_within (length (1 ∷ rest)) (length r
 item_within (suc (suc zero) ∷ rest) = tt
 item_within (suc (suc (suc kind)) ∷ rest) = rw (no_item (suc (suc (suc kind))) rest (omega arith)) (omega arith)
 
+-- an entry
 pub entry_within : (bytes : List ℕ) → IsWithin (length bytes) (entry_at bytes)
 unfolding entry_at
 entry_within bytes =
@@ -52,12 +57,14 @@ entry_within bytes =
     (λ term le. within_then (length bytes) (number_at 4 term.1) (λ len. inside len.0 item_of len.1 >>= λ item. Ok (record { term = term.0; item = item.0 }, item.1)) (within_less (length term.1) (length bytes) (number_at 4 term.1) le (number_within 4 term.1))
     (λ len le'. within_then (length bytes) (inside len.0 item_of len.1) (λ item. Ok (record { term = term.0; item = item.0 }, item.1)) (within_less (length len.1) (length bytes) (inside len.0 item_of len.1) le' (inside_within item_of item_within len.0 len.1)) (λ item h. h)))
 
+-- entries behind their count
 pub entries_within : (bytes : List ℕ) → IsWithin (length bytes) (entries_at bytes)
 unfolding entries_at
 entries_within bytes =
     within_then (length bytes) (number_at 4 bytes) (λ count. many_at entry_at count.0 count.1) (number_within 4 bytes)
     (λ count le. within_less (length count.1) (length bytes) (many_at entry_at count.0 count.1) le (many_within entry_at entry_within count.0 count.1))
 
+-- a record's body
 pub body_within : (bytes : List ℕ) → IsWithin (length bytes) (body_at bytes)
 unfolding body_at
 body_within bytes =

@@ -13,6 +13,7 @@ use Rattle.raft_log.specs.declared.entry.Entry.{Entry}
 use Rattle.raft_log.specs.declared.entry.Item.{Item}
 use Rattle.raft_log.specs.declared.entry.Item.TheVariants.{NoOp, Members, Payload}
 use Rattle.raft_log.specs.declared.record.Record.{Record}
+use Rattle.wal_frames.specs.Kinds.{no_op_item, members_item, payload_item, most_peers}
 use Rattle.wal_frames.specs.declared.refused.FrameRefused.{FrameRefused}
 use Rattle.wal_frames.specs.declared.refused.FrameRefused.TheVariants as refusals
 
@@ -24,20 +25,22 @@ peer_at others low bytes = id_at 4294967295 low bytes >>= λ id. if list_any (λ
 unfoldable pub peers_at : List ℕ → ℕ → List ℕ → Result (List ℕ × List ℕ) Misfit
 peers_at others room bytes = byte_at bytes >>= λ count. if nat_lt room count.0 then Err (misfit bytes) else rising_at (peer_at others) count.0 0 count.1
 
+-- voters, then learners, at most eight in all
 unfoldable pub config_at : List ℕ → Result (Config × List ℕ) Misfit
 config_at bytes = do
-  voters ← peers_at [] 8 bytes
-  learners ← peers_at voters.0 (8 - length voters.0) voters.1
+  voters ← peers_at [] most_peers bytes
+  learners ← peers_at voters.0 (most_peers - length voters.0) voters.1
   Ok (record { voters = voters.0; learners = learners.0 }, learners.1)
 
 -- all of the bytes of an item
 unfoldable pub item_of : List ℕ → Result Item Misfit
 item_of bytes = byte_at bytes >>= λ kind.
-    if kind.0 == 0 then (if length kind.1 == 0 then Ok NoOp else Err (misfit kind.1))
-    else if kind.0 == 1 then (whole config_at kind.1 >>= λ c. Ok (Members c))
-    else if kind.0 == 2 then Ok (Payload kind.1)
+    if kind.0 == no_op_item then (if length kind.1 == 0 then Ok NoOp else Err (misfit kind.1))
+    else if kind.0 == members_item then (whole config_at kind.1 >>= λ c. Ok (Members c))
+    else if kind.0 == payload_item then Ok (Payload kind.1)
     else Err (misfit bytes)
 
+-- term, length of the item, item
 unfoldable pub entry_at : List ℕ → Result (Entry × List ℕ) Misfit
 entry_at bytes = do
   term ← number_at 8 bytes
@@ -45,9 +48,11 @@ entry_at bytes = do
   item ← inside len.0 item_of len.1
   Ok (record { term = term.0; item = item.0 }, item.1)
 
+-- the entries behind their count
 unfoldable pub entries_at : List ℕ → Result (List Entry × List ℕ) Misfit
 entries_at bytes = number_at 4 bytes >>= λ count. many_at entry_at count.0 count.1
 
+-- term, vote, keep, entries
 unfoldable pub body_at : List ℕ → Result (Record × List ℕ) Misfit
 body_at bytes = do
   term ← number_at 8 bytes

@@ -15,6 +15,7 @@
 //! Below it are `raft_log` and `byte_fields`; above it are the file itself and its replica.
 #![tactic(auto)]
 
+mod kinds;
 mod reading;
 mod refused;
 mod writing;

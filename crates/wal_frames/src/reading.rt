@@ -3,8 +3,10 @@ ghost use Rattle.std.specs.Prelude.{◌≡◌, ◌≤◌, ◌++◌, List, ℕ, l
 ghost use Rattle.byte_fields.specs.Reading.{Reads, Gives, ReadsAll, Answers, rising_at, many_at, whole};
 ghost use Rattle.raft_log.specs.declared.record.Record.{Record};
 ghost use Rattle.wal_frames.specs.Spelling.{FitsRecord, body};
+ghost use Rattle.wal_frames.specs.Kinds.{most_peers};
 ghost use Rattle.wal_frames.specs.Reading.{place, peer_at, peers_at, config_at, item_of, entry_at, entries_at, body_at};
 
+use crate::kinds::{MEMBERS_ITEM, MOST_PEERS, NO_OP_ITEM, PAYLOAD_ITEM};
 use crate::refused::FrameRefused;
 use byte_fields::{Misfit, ReadRefused, read_byte, read_id, read_run, read_u32, read_u64};
 use lists::{Bytes, Listed};
@@ -25,7 +27,7 @@ fn read_peer<'a>(bytes: &'a [u8], others: &Peers, low: u32) -> Result<(u32, &'a 
 
 // `count` peers, rising, none of them among the others.
 fn read_rising<'a>(bytes: &'a [u8], others: &Peers, count: u8) -> Result<(Peers, &'a [u8]), Misfit>
-    requires { count ≤ 8 }
+    requires { count ≤ most_peers }
     ensures { Reads (λ x. (x.0, x.1.now)) result (rising_at (peer_at others.now) count 0 bytes.now) }
 {
     let mut peers = Peers::new();
@@ -43,7 +45,7 @@ fn read_rising<'a>(bytes: &'a [u8], others: &Peers, count: u8) -> Result<(Peers,
 // At most `room` peers behind their count, none of them among the others.
 #[tactic(auto, unfolding(crate::specs::Reading::peers_at))]
 fn read_peers<'a>(bytes: &'a [u8], others: &Peers, room: usize) -> Result<(Peers, &'a [u8]), Misfit>
-    requires { room ≤ 8 }
+    requires { room ≤ most_peers }
     ensures { Reads (λ x. (x.0, x.1.now)) result (peers_at others.now room bytes.now) }
 {
     let (count, rest) = read_byte(bytes)?;
@@ -57,8 +59,8 @@ fn read_peers<'a>(bytes: &'a [u8], others: &Peers, room: usize) -> Result<(Peers
 fn read_config(bytes: &[u8]) -> Result<(Config, &[u8]), Misfit>
     ensures { Reads (λ x. (x.0, x.1.now)) result (config_at bytes.now) }
 {
-    let (voters, rest) = read_peers(bytes, &Peers::new(), 8)?;
-    let (learners, rest) = read_peers(rest, &voters, 8 - voters.len())?;
+    let (voters, rest) = read_peers(bytes, &Peers::new(), MOST_PEERS)?;
+    let (learners, rest) = read_peers(rest, &voters, MOST_PEERS - voters.len())?;
     Ok((Config { voters, learners }, rest))
 }
 
@@ -67,16 +69,16 @@ fn read_item(alloc: Global, bytes: &[u8]) -> Result<Item, ReadRefused>
     ensures { Gives (λ item. item) result (item_of bytes.now) }
 {
     match bytes {
-        [0] => Ok(Item::NoOp),
-        [0, rest @ ..] => Err(Misfit::at(rest).into()),
-        [1, rest @ ..] => {
+        [NO_OP_ITEM] => Ok(Item::NoOp),
+        [NO_OP_ITEM, rest @ ..] => Err(Misfit::at(rest).into()),
+        [MEMBERS_ITEM, rest @ ..] => {
             let (config, rest) = read_config(rest)?;
             if !rest.is_empty() {
                 return Err(Misfit::at(rest).into());
             }
             Ok(Item::Members(config))
         }
-        [2, rest @ ..] => Ok(Item::Payload(Bytes::from_slice(alloc, rest)?)),
+        [PAYLOAD_ITEM, rest @ ..] => Ok(Item::Payload(Bytes::from_slice(alloc, rest)?)),
         _ => Err(Misfit::at(bytes).into()),
     }
 }

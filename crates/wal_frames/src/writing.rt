@@ -1,10 +1,11 @@
 //! Writing frames.
-ghost use Rattle.std.specs.Prelude.{◌≡◌, ◌<◌, ◌^◌, ◌++◌, length, IfOk, OnOk};
+ghost use Rattle.std.specs.Prelude.{◌≡◌, ◌<◌, ◌++◌, length, IfOk, OnOk};
 ghost use Rattle.std.specs.List.{flat_map, AllByRecursion};
 ghost use Rattle.raft_log.specs.Config.{IsConfig, IsItem, AreEntries};
 ghost use Rattle.byte_fields.specs.Frames.{IsFrame};
 ghost use Rattle.wal_frames.specs.Spelling.{config, item, entry, entries, body, FitsConfig, FitsItem, FitsEntry, FitEntries, FitsRecord};
 
+use crate::kinds::{MEMBERS_ITEM, NO_OP_ITEM, PAYLOAD_ITEM};
 use byte_fields::{CLOSED_GATE, Frame, Writer};
 use lists::NoMemory;
 use raft_log::{Config, Entries, Entry, Item, Record};
@@ -29,13 +30,13 @@ fn put_item(out: &mut Writer, held: &Item) -> Result<(), NoMemory>
     ensures fits { OnOk result (FitsItem held.now) }
 {
     match held {
-        Item::NoOp => out.put_byte(0),
+        Item::NoOp => out.put_byte(NO_OP_ITEM),
         Item::Members(members) => {
-            out.put_byte(1)?;
+            out.put_byte(MEMBERS_ITEM)?;
             put_config(out, members)
         }
         Item::Payload(bytes) => {
-            out.put_byte(2)?;
+            out.put_byte(PAYLOAD_ITEM)?;
             out.put_run(bytes.as_slice())
         }
     }
@@ -65,11 +66,20 @@ fn put_each(out: &mut Writer, list: &[Entry]) -> Result<(), NoMemory>
     Ok(())
 }
 
+/// The most bytes of an item that is members: its kind, two counts, and eight ids of 4 bytes.
+const MOST_MEMBERS: usize = 35;
+
+/// The bytes of an entry before its item: its term and a length.
+const ENTRY_HEAD: usize = 12;
+
+/// The bytes of a frame beside its entries: two lengths, a vote, two numbers and a gate.
+const FRAME_FIELDS: usize = 25;
+
 // How many bytes an item takes at most: members are at most eight peers.
 fn item_room(held: &Item) -> usize {
     match held {
         Item::NoOp => 1,
-        Item::Members(_) => 35,
+        Item::Members(_) => MOST_MEMBERS,
         Item::Payload(bytes) => bytes.len().saturating_add(1),
     }
 }
@@ -80,7 +90,7 @@ pub fn entries_room(list: &Entries) -> usize {
     for made in list.as_slice() {
         room = room
             .saturating_add(item_room(&made.item))
-            .saturating_add(12);
+            .saturating_add(ENTRY_HEAD);
     }
     room
 }
@@ -117,7 +127,10 @@ pub fn encode(alloc: Global, made: &Record) -> Result<Frame, NoMemory>
     ensures ok { IfOk result (λ frame. IsFrame (body made.now) frame) }
     ensures fits { OnOk result (FitsRecord made.now) }
 {
-    let mut out = Writer::with_room(alloc, entries_room(&made.entries).saturating_add(25))?;
+    let mut out = Writer::with_room(
+        alloc,
+        entries_room(&made.entries).saturating_add(FRAME_FIELDS),
+    )?;
     out.put_u32(0)?;
     put_body(&mut out, made)?;
     out.fill_length(0)?;

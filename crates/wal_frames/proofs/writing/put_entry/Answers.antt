@@ -1,4 +1,4 @@
-use Rattle.std.proofs.Common.{rules, ◌≡◌, ◌<◌, ◌^◌, ◌++◌, ◌+◌, ◌-◌, List, ℕ, length, sym, ap, ◌∙◌, append_assoc, subst}
+use Rattle.std.proofs.Common.{rules, ◌≡◌, ◌<◌, ◌^◌, ◌++◌, List, ℕ, length, sym, ap, ◌∙◌, append_assoc, subst}
 use Rattle.byte_fields.specs.Fields.{number}
 use Rattle.byte_fields.proofs.Filling.{filled, length-filled}
 use Rattle.wal_frames.specs.Spelling.{item}
