@@ -4,6 +4,7 @@ use Rattle.std.proofs.lemmas.List.{take-append-le, drop-append-le, take_all, tak
 use Rattle.disk_model.specs.Replay.{history_on, history, moved, size_of}
 use Rattle.disk_model.specs.declared.call.Made.{Made}
 
+-- one more call moves its bytes too
 pub moved_push : (calls : List Made) (made : Made) → moved (calls ++ made ∷ []) ≡ moved calls + size_of made.call
 moved_push [] made = omega arith
 moved_push (first ∷ rest) made = omega (arith, moved_push rest made)
@@ -21,6 +22,7 @@ on_push before (first ∷ rest) stored made bytes whole size =
     ∙ ap (λ (l : List ℕ). history_on ((first, take n stored) ∷ before) (rest ++ made ∷ []) l) dropped
     ∙ on_push ((first, take n stored) ∷ before) rest (drop n stored) made bytes (omega (arith, whole, length-drop n stored)) size
 
+-- one more call, with its bytes, is the newest of the history
 pub history_push : (calls : List Made) (stored : List ℕ) (made : Made) (bytes : List ℕ) → moved calls ≡ length stored → size_of made.call ≡ length bytes
     → history (calls ++ made ∷ []) (stored ++ bytes) ≡ (made, bytes) ∷ history calls stored
 history_push = on_push []

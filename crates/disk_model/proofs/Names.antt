@@ -8,9 +8,11 @@ use Rattle.disk_model.specs.Kept.{kept_at, is_named, or_else}
 use Rattle.disk_model.specs.declared.rack.DiskName.{DiskName}
 use Rattle.disk_model.specs.declared.mem_rack.Kept.{Kept}
 
+-- a name is its own name
 pub named_self : (a : DiskName) → is_named a a ≡ true
 named_self a = grind (arith, nat_tests)
 
+-- a name that is another isn't this one
 pub named_apart : (a b : DiskName) → b ≢ a → is_named a b ≡ false
 named_apart a b apart = elim (cases_eq a.node b.node) [
   | inr other ↦ grind (arith, nat_tests)
@@ -37,9 +39,11 @@ kept_push (first ∷ kept) one name =
     ap (λ (found : Option (List ℕ)). or_else found (if is_named first.name name then Some first.disk.bytes.items else None)) (kept_push kept one name)
     ∙ or_else_assoc (if is_named one.name name then Some one.disk.bytes.items else None) (kept_at kept name) (if is_named first.name name then Some first.disk.bytes.items else None)
 
+-- what was kept last by a name is what it keeps
 pub kept_here : (kept : List Kept) (one : Kept) → kept_at (kept ++ one ∷ []) one.name ≡ Some one.disk.bytes.items
 kept_here kept one = kept_push kept one one.name ∙ ap (λ (b : Bool). or_else (if b then Some one.disk.bytes.items else None) (kept_at kept one.name)) (named_self one.name)
 
+-- what other names keep stays
 pub kept_elsewhere : (kept : List Kept) (one : Kept) (name : DiskName) → name ≢ one.name → kept_at (kept ++ one ∷ []) name ≡ kept_at kept name
 kept_elsewhere kept one name apart = kept_push kept one name ∙ ap (λ (b : Bool). or_else (if b then Some one.disk.bytes.items else None) (kept_at kept name)) (named_apart one.name name apart)
 

@@ -16,6 +16,7 @@ use Rattle.disk_model.specs.Memory.{file_of}
 abbrev pub is_named : DiskName → DiskName → Bool
 is_named a b = (a.node == b.node) && ((a.part == b.part) && (a.peer == b.peer))
 
+-- what was found, or else the other
 abbrev pub or_else : Option (List ℕ) → Option (List ℕ) → Option (List ℕ)
 or_else (Some file) other = Some file
 or_else None other = other

@@ -10,6 +10,7 @@ use Rattle.disk_model.specs.declared.call.Call.{Call}
 use Rattle.disk_model.specs.declared.call.Call.TheVariants.{Write, Cut, Sync}
 use Rattle.disk_model.specs.declared.call.Made.{Made}
 
+-- a write of which nothing was done
 pub torn_not : (at n : ℕ) (file : List ℕ) → Torn at n file file
 torn_not at n file = record { before = refl; behind = refl; no_shorter = omega arith; no_longer = omega arith }
 
@@ -27,9 +28,11 @@ torn_whole at bytes file inside =
       no_longer = omega (arith, size, inside);
     }
 
+-- a cut of which nothing was done
 pub cut_not : (len : ℕ) (file : List ℕ) → CutShort len file file
 cut_not len file = record { before = refl; no_longer = omega arith }
 
+-- a cut that was done whole
 pub cut_whole : (len : ℕ) (file : List ℕ) → CutShort len file (take len file)
 cut_whole len file = record { before = take-take len len file (omega arith); no_longer = omega (arith, length-take len file) }
 
@@ -48,6 +51,7 @@ step_is_image (Cut len) false bytes file left here = (file, here, cut_not len fi
 step_is_image Sync true bytes file left here = refl
 step_is_image Sync false bytes file left here = here
 
+-- what is read after some calls is an image after them
 pub read_is_image : (first : List ℕ) (steps : List (Made × List ℕ)) → Left first steps (reads_after first steps)
 read_is_image first [] = refl
 read_is_image first (step ∷ older) = step_is_image step.0.call step.0.ok step.1 (reads_after first older) (Left first older) (read_is_image first older)
@@ -55,17 +59,21 @@ read_is_image first (step ∷ older) = step_is_image step.0.call step.0.ok step.
 some_same : (a b : List ℕ) → Some a ≡ Some b → a ≡ b
 some_same a b same = cc
 
+-- what a disk tells is an image
 pub shown_is_image : (first bytes file : List ℕ) (steps : List (Made × List ℕ)) → bytes ≡ reads_after first steps → Some bytes ≡ Some file → Left first steps file
 shown_is_image first bytes file steps replays same =
     subst (Left first steps) (sym replays ∙ some_same bytes file same) (read_is_image first steps)
 
+-- what a disk tells has a length of 64 bits
 pub shown_fits : (bytes file : List ℕ) → length bytes < 2 ^ 64 → Some bytes ≡ Some file → length file < 2 ^ 64
 shown_fits bytes file small same = omega (arith, small, ap length (some_same bytes file same))
 
+-- what a crash now may leave, a crash since any moment might have left
 pub counts_left : (first : List ℕ) (t : ℕ) (steps : List (Made × List ℕ)) (c : List ℕ) → Left first steps c → LeftSince first t steps c
 counts_left first t [] c left = left
 counts_left first t (step ∷ older) c left = inl left
 
+-- what a crash since the last call might have left, a crash now may leave
 pub only_left : (first : List ℕ) (steps : List (Made × List ℕ)) (c : List ℕ) → LeftSince first (length steps) steps c → Left first steps c
 only_left first [] c left = left
 only_left first (step ∷ older) c (inl left) = left
@@ -87,6 +95,7 @@ synced_step (Cut len) ok bytes file synced left here = (synced, here, cut_not le
 synced_step Sync true bytes file synced left here = refl
 synced_step Sync false bytes file synced left here = here
 
+-- what was synced is an image
 pub synced_is_left : (first : List ℕ) (steps : List (Made × List ℕ)) → Left first steps (synced_after first steps)
 synced_is_left first [] = refl
 synced_is_left first (step ∷ older) = synced_step step.0.call step.0.ok step.1 (reads_after first older) (synced_after first older) (Left first older) (synced_is_left first older)
