@@ -1,18 +1,21 @@
 -- A peer as the code keeps it: what it is beside its log, its log, and how many entries that can take without memory.
-use Rattle.std.specs.Prelude.{◌≡◌, ◌≤◌, ℕ, List, [], length, take, true, false, Result, Ok, Err, None, Some}
+use Rattle.std.specs.Prelude.{◌≡◌, ◌≤◌, ℕ, List, [], ◌++◌, length, take, true, false, Result, Ok, Err, None, Some}
 use Rattle.raft_log.specs.declared.entry.Entry.{Entry}
 use Rattle.raft_log.specs.declared.role.Role.TheVariants.{Follower}
 use Rattle.raft_log.specs.Log.{config_of, config_index}
+use Rattle.raft_core.specs.declared.next_peer.NextPeer.{NextPeer}
 use Rattle.raft_core.specs.declared.effects.NotLeader.{NotLeader}
+use Rattle.raft_core.specs.declared.effects.RaftEffects.{RaftEffects}
 use Rattle.raft_core.specs.declared.input.RaftInput.{RaftInput}
 use Rattle.raft_core.specs.declared.made.Outcome.{Outcome}
 use Rattle.raft_core.specs.declared.peer.RaftRoom.{RaftRoom}
 use Rattle.raft_core.specs.declared.state.PeerState.{PeerState}
 use Rattle.raft_core.specs.declared.view.PeerView.{PeerView}
+use Rattle.raft_log.specs.Config.{AreEntries}
 use Rattle.raft_core.specs.Ahead.{core_with}
 use Rattle.raft_core.specs.Core.{Core, is_ready}
-use Rattle.raft_core.specs.Outcome.{IsOutcome}
-use Rattle.raft_core.specs.Step.{refusal}
+use Rattle.raft_core.specs.Outcome.{IsOutcome, stepped_by}
+use Rattle.raft_core.specs.Step.{refusal, stepped}
 
 abbrev pub Peer : Type 0
 Peer = PeerState × (List Entry × ℕ)
@@ -38,6 +41,18 @@ IsAnswerFor peer input (Err refused) = refusal (core_of peer) input ≡ Some ref
 
 abbrev pub IsRoomFor : Peer → RaftInput → RaftRoom → Type 0
 IsRoomFor peer input room = IsAnswerFor peer input room.made
+
+-- the peer that stands behind a step, whose log was this
+abbrev pub core_next : List Entry → NextPeer → Core
+core_next log next = core_with next.state (take next.keep log ++ next.entries.items)
+
+-- The parts of a peer's step with an input: what stands behind it and what it gives are the step's, and the log has room for
+-- the entries.
+pub record IsNextBy (peer : Peer) (input : RaftInput) (effects : RaftEffects) (next : NextPeer) : Type 0 where
+  pub within : next.keep ≤ length peer.1.0
+  pub items : AreEntries next.entries.items
+  pub spare : length next.entries.items ≤ peer.1.1
+  pub is : stepped_by (core_next peer.1.0 next) effects ≡ stepped (core_of peer) input
 
 -- what is seen of a peer: its last configuration, and the last one that is committed
 abbrev pub view_of : Core → PeerView

@@ -7,7 +7,7 @@
 //! confirms. It gives the new state, at most one record, the messages, and the entries that are newly committed.
 //!
 //! The laws hold for every state and input; those that need it ask `IsPeer`, which each state has from its opening on.
-//! Below are `raft_log` and `member_change`; above it are `raft_group` and `replica_core`.
+//! Below are `raft_log` and `member_change`; above it are `raft_group` and `replica_model`.
 #![tactic(auto)]
 
 mod ahead;
@@ -20,6 +20,7 @@ mod laws;
 mod leader;
 mod made;
 mod next_log;
+mod next_peer;
 mod outcome;
 mod peer;
 mod progress;
@@ -37,6 +38,7 @@ pub use laws::{
     worked_rounds, worked_steps,
 };
 pub use next_log::config_from;
+pub use next_peer::NextPeer;
 pub use peer::{RaftCore, RaftRoom};
 pub use progress::{Progress, Row};
 pub use state::{PeerState, Rows};

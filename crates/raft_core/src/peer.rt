@@ -16,6 +16,7 @@ use crate::input::RaftInput;
 use crate::leader::matched_in;
 use crate::made::Outcome;
 use crate::next_log::NextLog;
+use crate::next_peer::NextPeer;
 use crate::outcome::outcome_of;
 use crate::state::PeerState;
 use crate::view::PeerView;
@@ -57,6 +58,39 @@ pub struct RaftRoom {
     made: Result<Outcome, NotLeader>,
 }
 
+impl RaftRoom {
+    ghost use Rattle.raft_core.specs.declared.input.RaftInput.{RaftInput as Asked};
+    ghost use Rattle.raft_core.specs.Peer.{Peer, core_of, IsRoomFor, IsNextBy};
+
+    /// The step taken apart, before it is taken: what stands behind it, and what it gives. Refused exactly where the step
+    /// would be.
+    pub fn parted(self) -> Result<(NextPeer, RaftEffects), NotLeader>
+        ensures parts { (peer : Peer) (input : Asked) → IsRoomFor peer input self → IfOk result (λ parts. IsNextBy peer input parts.1 parts.0) }
+        ensures takes { (peer : Peer) (input : Asked) → IsRoomFor peer input self → OnOk result (rules.refusal (core_of peer) input ≡ None) }
+        ensures refused { (peer : Peer) (input : Asked) → IsRoomFor peer input self → IfErr result (λ refused. rules.refusal (core_of peer) input ≡ Some refused) }
+    {
+        match self.made {
+            Ok(made) => {
+                let Outcome {
+                    state,
+                    keep,
+                    entries,
+                    effects,
+                } = made;
+                Ok((
+                    NextPeer {
+                        state,
+                        keep,
+                        entries,
+                    },
+                    effects,
+                ))
+            }
+            Err(refused) => Err(refused),
+        }
+    }
+}
+
 // A log gets other entries behind those that stay.
 fn rewrite(log: &mut RaftLog, keep: u64, entries: Vec<Entry>)
     requires within { keep ≤ length log.old.0 }
@@ -93,7 +127,10 @@ fn follower(alloc: Global, me: u32, term: u64, vote: u32) -> PeerState
 
 impl RaftCore {
     ghost use Rattle.raft_core.specs.Outcome.{stepped_by};
-    ghost use Rattle.raft_core.specs.Peer.{core_of, view_of, IsMadeFor, IsRoomFor};
+    ghost use Rattle.raft_core.specs.declared.effects.RaftEffects.{RaftEffects as Effects};
+    ghost use Rattle.raft_core.specs.declared.input.RaftInput.{RaftInput as Asked};
+    ghost use Rattle.raft_core.specs.declared.peer.RaftRoom.{RaftRoom as Room};
+    ghost use Rattle.raft_core.specs.Peer.{core_of, core_next, view_of, IsMadeFor, IsRoomFor, IsNextBy};
 
     /// A follower with commit 0. It takes no memory until it steps.
     pub fn open(alloc: Global, me: u32, term: u64, vote: u32, log: RaftLog) -> RaftCore
@@ -108,6 +145,13 @@ impl RaftCore {
         ensures { core_of self.new ≡ crashed (core_of self.old) }
     {
         self.state = follower(alloc, self.state.me, self.state.term, self.state.vote);
+    }
+
+    /// What the peer is, beside its log.
+    pub fn state(&self) -> &PeerState
+        ensures { result.now ≡ self.now.0 }
+    {
+        &self.state
     }
 
     /// The log. What holds of each peer holds of this one.
@@ -160,11 +204,12 @@ impl RaftCore {
     }
 
     /// Room for one step with this input. Refused for want of memory alone. The peer stays as it is, but for room in its
-    /// log.
+    /// log; a room that was made for it before is one still.
     pub fn reserve(&mut self, alloc: Global, input: &RaftInput) -> Result<RaftRoom, NoMemory>
         requires { IsInput input.now }
         ensures room { IfOk result (IsRoomFor self.new input.now) }
         ensures same { core_of self.new ≡ core_of self.old }
+        ensures stands { (other : Asked) (room : Room) → IsRoomFor self.old other room → IsRoomFor self.new other room }
     {
         if let Some(refused) = giving::refusal(&self.state, &self.log, input) {
             return Ok(RaftRoom { made: Err(refused) });
@@ -199,5 +244,14 @@ impl RaftCore {
         rewrite(&mut self.log, made.keep, made.entries);
         self.state = made.state;
         made.effects
+    }
+
+    /// The peer becomes what stands behind a step that was made for it and taken apart. It takes no memory.
+    pub fn move_on(&mut self, behind: NextPeer)
+        requires { (input : Asked) × (effects : Effects) × IsNextBy self.old input effects behind }
+        ensures { core_of self.new ≡ core_next (core_of self.old).log behind }
+    {
+        rewrite(&mut self.log, behind.keep, behind.entries);
+        self.state = behind.state;
     }
 }

@@ -1,77 +1,86 @@
 -- Up to where the terms of a log rise, kept beside it.
-use Rattle.std.proofs.Common.{◌≡◌, inl, inr, ℕ, zero, suc, ◌+◌, ◌<◌, ◌≤◌, min, List, [], ◌∷◌, ◌++◌, length, take, Bool, true, false, refl, ap, sym, subst, ◌∙◌, arith, length-append}
-use Rattle.std.specs.Prelude.{◌==◌, nat_le, ◌&&◌}
+use Rattle.std.proofs.Common.{◌≡◌, ℕ, zero, suc, ◌+◌, ◌<◌, ◌≤◌, min, List, [], ◌∷◌, ◌++◌, length, take, Bool, true, false, refl, ap, sym, ◌∙◌, arith}
+use Rattle.std.specs.Prelude.{◌==◌, nat_le, ◌&&◌, if◌then◌else◌}
 use Rattle.std.specs.Bool.{OnTrue}
-use Rattle.std.proofs.lemmas.Bool.{cond_both, and_parts, eqb-true, leb-true, cases_lt}
-use Rattle.std.proofs.lemmas.List.{take_all, take-append-le}
+use Rattle.std.proofs.Math.Dec.{eqb-suc-suc, eqb-zero-suc}
+use Rattle.std.proofs.lemmas.Bool.{cond_both, leb-true}
 use Rattle.raft_log.specs.declared.entry.Entry.{Entry}
 use Rattle.raft_log.specs.Log.{term_at, last_of}
-use Rattle.raft_log.specs.Rising.{IsRisingFrom, RisesTo, risen, IsOlder}
+use Rattle.raft_log.specs.Rising.{rising_from, rising, risen, IsOlder}
 
--- the last term is not below the bound
-top : (low : ℕ) (entry : Entry) (log : List Entry) → IsRisingFrom low (entry ∷ log) → low ≤ term_at (entry ∷ log) (length (entry ∷ log))
-top low entry [] is = is.0
-top low entry (next ∷ log) is = let h = top entry.term next log is.1 in omega (arith, is.0, h)
+-- the last term, or this one
+abbrev top : ℕ → List Entry → ℕ
+top low [] = low
+top low (entry ∷ log) = top entry.term log
 
--- one entry more, of a term that isn't below the last one
-one_more : (low : ℕ) (log : List Entry) (entry : Entry) → low ≤ entry.term → IsRisingFrom low log → (0 < length log → term_at log (length log) ≤ entry.term) → IsRisingFrom low (log ++ entry ∷ [])
-one_more low [] entry above is last = (above, tt)
-one_more low (first ∷ []) entry above is last = (is.0, (last (omega arith), tt))
-one_more low (first ∷ second ∷ log) entry above is last =
-    let t = top first.term second log is.1 in
-    let l = last (omega arith) in
-    (is.0, one_more first.term (second ∷ log) entry (omega (arith, t, l)) is.1 (λ some. l))
+top_there : (entry : Entry) (log : List Entry) → top entry.term log ≡ term_at (entry ∷ log) (suc (length log))
+top_there entry [] = refl
+top_there entry (next ∷ log) = top_there next log
 
-pub risen_kept : (rising : ℕ) (log : List Entry) (entry : Entry) → RisesTo rising log → RisesTo (risen rising (last_of log) entry.term) (log ++ entry ∷ [])
-risen_kept rising log entry is =
-    let w = is.within in
-    let long = length-append log (entry ∷ []) in
-    cond_both ((rising == length log) && nat_le (term_at log (length log)) entry.term) (rising + 1) rising (λ n. RisesTo n (log ++ entry ∷ []))
-    (λ goes_on.
-    let p = and_parts (rising == length log) (nat_le (term_at log (length log)) entry.term) goes_on in
-    let e : rising ≡ length log = eqb-true rising (length log) p.0 in
-    let l : term_at log (length log) ≤ entry.term = leb-true (term_at log (length log)) entry.term p.1 in
-    let all : IsRisingFrom 0 log = subst (IsRisingFrom 0) (take_all rising log (omega arith)) is.rises in
-    record {
-      within = omega arith;
-      rises = subst (IsRisingFrom 0) (sym (take_all (rising + 1) (log ++ entry ∷ []) (omega arith))) (one_more 0 log entry (omega arith) all (λ some. l));
-    })
-    (λ stops. record { within = omega arith; rises = subst (IsRisingFrom 0) (sym (take-append-le rising log (entry ∷ []) w)) is.rises })
+top_is : (log : List Entry) → top 0 log ≡ term_at log (length log)
+top_is [] = refl
+top_is (entry ∷ log) = top_there entry log
 
-front : (low : ℕ) (log more : List Entry) → IsRisingFrom low (log ++ more) → IsRisingFrom low log
-front low [] more is = tt
-front low (entry ∷ log) more is = (is.0, front entry.term log more is.1)
+-- one entry more, of this term
+abbrev goes_on : ℕ → ℕ → Bool → ℕ
+goes_on known count more = if (known == count) && more then known + 1 else known
 
-pub cut_risen : (rising : ℕ) (log : List Entry) (entry : Entry) → RisesTo rising (log ++ entry ∷ []) → RisesTo (min rising (length log)) log
-cut_risen rising log entry is =
-    let w = is.within in
-    let long = length-append log (entry ∷ []) in
-    elim (cases_lt (length log) rising) [
-      | inl past ↦
-          (let e : min rising (length log) ≡ length log = omega arith in
-          let all : IsRisingFrom 0 (log ++ entry ∷ []) = subst (IsRisingFrom 0) (take_all rising (log ++ entry ∷ []) (omega arith)) is.rises in
-          record { within = omega arith; rises = subst (IsRisingFrom 0) (sym (ap (λ n. take n log) e ∙ take_all (length log) log (omega arith))) (front 0 log (entry ∷ []) all) })
-      | inr inside ↦
-          (let e : min rising (length log) ≡ rising = omega arith in
-          record { within = omega arith; rises = subst (IsRisingFrom 0) (take-append-le rising log (entry ∷ []) (omega arith) ∙ sym (ap (λ n. take n log) e)) is.rises })
-    ]
+one_up : (more : Bool) (known after : ℕ) → (if more then known + 1 else known) ≡ after → (if more then suc known + 1 else suc known) ≡ suc after
+one_up true known after is = omega (arith, is)
+one_up false known after is = omega (arith, is)
+
+one_before : (first more : Bool) (known count after : ℕ) → goes_on known count more ≡ after → goes_on (if first then suc known else 0) (suc count) more ≡ (if first then suc after else 0)
+one_before true more known count after is =
+    ap (λ (same : Bool). if same && more then suc known + 1 else suc known) (eqb-suc-suc known count) ∙ one_up ((known == count) && more) known after is
+one_before false more known count after is = ap (λ (same : Bool). if same && more then 0 + 1 else 0) (eqb-zero-suc count)
+
+grown : (low : ℕ) (log : List Entry) (entry : Entry) → goes_on (rising_from low log) (length log) (nat_le (top low log) entry.term) ≡ rising_from low (log ++ entry ∷ [])
+grown low [] entry = refl
+grown low (first ∷ log) entry =
+    one_before (nat_le low first.term) (nat_le (top first.term log) entry.term) (rising_from first.term log) (length log) (rising_from first.term (log ++ entry ∷ [])) (grown first.term log entry)
+
+pub risen_is : (log : List Entry) (entry : Entry) → risen (rising log) (last_of log) entry.term ≡ rising (log ++ entry ∷ [])
+risen_is log entry = ap (λ (last : ℕ). goes_on (rising log) (length log) (nat_le last entry.term)) (sym (top_is log)) ∙ grown 0 log entry
+
+-- they rise within the log
+within_from : (low : ℕ) (log : List Entry) → rising_from low log ≤ length log
+within_from low [] = omega arith
+within_from low (entry ∷ log) = cond_both (nat_le low entry.term) (suc (rising_from entry.term log)) 0 (λ n. n ≤ length (entry ∷ log)) (λ rises. let w = within_from entry.term log in omega (arith, w)) (λ stops. omega arith)
+
+pub within : (log : List Entry) → rising log ≤ length log
+within log = within_from 0 log
+
+one_off : (first : Bool) (before after count : ℕ) → min after count ≡ before → min (if first then suc after else 0) (suc count) ≡ (if first then suc before else 0)
+one_off true before after count is = omega (arith, is)
+one_off false before after count is = omega arith
+
+cut : (low : ℕ) (log : List Entry) (entry : Entry) → min (rising_from low (log ++ entry ∷ [])) (length log) ≡ rising_from low log
+cut low [] entry = omega arith
+cut low (first ∷ log) entry = one_off (nat_le low first.term) (rising_from first.term log) (rising_from first.term (log ++ entry ∷ [])) (length log) (cut first.term log entry)
+
+pub cut_is : (log : List Entry) (entry : Entry) → min (rising (log ++ entry ∷ [])) (length log) ≡ rising log
+cut_is log entry = cut 0 log entry
 
 -- where the terms rise up to an index, each entry up to it is as old as the one there, or older
-older_from : (low : ℕ) (log : List Entry) (i rising term : ℕ) → suc i ≤ rising → suc i ≤ length log → IsRisingFrom low (take rising log) → term_at log (suc i) < term → IsOlder term (take (suc i) log)
-older_from low [] i rising term known within is below = absurd (omega arith)
-older_from low (entry ∷ log) i zero term known within is below = absurd (omega arith)
-older_from low (entry ∷ log) zero (suc rising) term known within is below = (below, tt)
-older_from low (entry ∷ []) (suc i) (suc rising) term known within is below = absurd (omega arith)
-older_from low (entry ∷ next ∷ log) (suc i) (suc zero) term known within is below = absurd (omega arith)
-older_from low (entry ∷ next ∷ log) (suc i) (suc (suc rising)) term known within is below =
-    let h = older_from entry.term (next ∷ log) i (suc rising) term (omega arith) (omega arith) is.1 below in
-    let n : next.term < term = h.0 in
-    let e : entry.term ≤ next.term = is.1.0 in
-    (omega (arith, n, e), h)
+first_rises : (first : Bool) (known i : ℕ) → suc i ≤ (if first then suc known else 0) → (first ≡ true) × (i ≤ known)
+first_rises true known i is = (refl, omega (arith, is))
+first_rises false known i is = absurd (omega (arith, is))
 
-pub older : (rising index term : ℕ) (log : List Entry) → RisesTo rising log → index ≤ rising → term_at log index < term → IsOlder term (take index log)
-older rising zero term log is known below = tt
-older rising (suc i) term log is known below = let w = is.within in older_from 0 log i rising term known (omega arith) is.rises below
+older_from : (low : ℕ) (log : List Entry) (i term : ℕ) → suc i ≤ rising_from low log → term_at log (suc i) < term → (low < term) × IsOlder term (take (suc i) log)
+older_from low [] i term known below = absurd (omega (arith, known))
+older_from low (entry ∷ log) zero term known below =
+    let above = leb-true low entry.term (first_rises (nat_le low entry.term) (rising_from entry.term log) 0 known).0 in
+    (omega (arith, above, below), (below, tt))
+older_from low (entry ∷ log) (suc i) term known below =
+    let first = first_rises (nat_le low entry.term) (rising_from entry.term log) (suc i) known in
+    let above = leb-true low entry.term first.0 in
+    let behind = older_from entry.term log i term first.1 below in
+    let n : entry.term < term = behind.0 in
+    (omega (arith, above, n), (n, behind.1))
+
+pub older : (index term : ℕ) (log : List Entry) → index ≤ rising log → term_at log index < term → IsOlder term (take index log)
+older zero term log known below = tt
+older (suc i) term log known below = (older_from 0 log i term known below).1
 
 pub on_true : {P : Type 0} (b : Bool) → (b ≡ true → P) → OnTrue b P
 on_true true holds = holds refl

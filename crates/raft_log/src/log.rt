@@ -1,11 +1,11 @@
 //! The log.
-ghost use Rattle.std.specs.Prelude.{◌≡◌, [], ◌∷◌, ◌++◌, ◌≤◌, ◌<◌, ◌-◌, ◌^◌, length, take, OnOk, IfOk, slice_get, vec_len, vec_capacity};
+ghost use Rattle.std.specs.Prelude.{◌≡◌, [], ◌∷◌, ◌++◌, ◌≤◌, ◌<◌, ◌-◌, ◌^◌, ◌&&◌, nat_le, nat_lt, length, take, OnOk, IfOk, slice_get, vec_len, vec_capacity};
 ghost use Rattle.std.specs.Bool.{OnTrue};
 ghost use Rattle.std.specs.Option.{option_copied};
 ghost use Rattle.raft_log.specs.Config.{IsConfig, IsItem, AreEntries};
 ghost use Rattle.raft_log.specs.Log.{entry_at, term_at, last_of, matches, config_of, config_index};
 ghost use Rattle.raft_log.specs.Places.{members_in, noted, forgotten};
-ghost use Rattle.raft_log.specs.Rising.{risen, IsOlder};
+ghost use Rattle.raft_log.specs.Rising.{risen, rising, IsOlder};
 
 use crate::config::Config;
 use crate::entry::{Entry, Item};
@@ -16,7 +16,7 @@ use lists::NoMemory;
 use std::alloc::Global;
 use std::marker::Model;
 
-/// A log. Beside it stand the places of its configurations, and up to where its terms are known to rise. Contracts
+/// A log. Beside it stand the places of its configurations, and up to where its terms rise. Contracts
 /// see its entries, and its spare: how many entries it can take without memory.
 #[derive(Drop)]
 pub struct RaftLog {
@@ -32,7 +32,7 @@ impl Model for RaftLog {
     ghost use Rattle.raft_log.specs.contracts.entry.Entry as entry;
     ghost use Rattle.raft_log.specs.Config.{AreEntries};
     ghost use Rattle.raft_log.specs.Places.{config_places};
-    ghost use Rattle.raft_log.specs.Rising.{RisesTo};
+    ghost use Rattle.raft_log.specs.Rising.{rising as rising_in};
 
     ghost Value = { List Entry × ℕ };
 
@@ -40,7 +40,7 @@ impl Model for RaftLog {
 
     ghost view = { λ it. (it.entries.items, min (vec_capacity it.entries - vec_len it.entries) (vec_capacity it.places - vec_len it.places)) };
 
-    ghost invariant = { λ it. (it.places.items ≡ config_places it.entries.items) × AreEntries it.entries.items × RisesTo it.rising it.entries.items };
+    ghost invariant = { λ it. (it.places.items ≡ config_places it.entries.items) × AreEntries it.entries.items × (it.rising ≡ rising_in it.entries.items) };
 }
 
 // Notes the place of a configuration that is put into the log.
@@ -97,9 +97,10 @@ impl RaftLog {
         }
     }
 
-    /// Makes room for this many entries. Refused for want of memory alone. The log stays.
+    /// Makes room for this many entries. Refused for want of memory alone. The log stays, and has no less room than before.
     pub fn reserve(&mut self, entries: usize) -> Result<(), NoMemory>
         ensures room { OnOk result (entries ≤ self.new.1) }
+        ensures spare { self.old.1 ≤ self.new.1 }
         ensures same { self.new.0 ≡ self.old.0 }
     {
         self.entries.reserve(entries)?;
@@ -206,10 +207,10 @@ impl RaftLog {
         }
     }
 
-    /// Whether each entry up to an index is known to have a lower term: where it answers true each of them has one, and where
-    /// it answers false nothing is said.
+    /// Whether terms rise up to an index, and the one there is below this one. Then each entry up to it has a lower term.
     pub fn is_older(&self, index: u64, term: u64) -> bool
-        ensures { OnTrue result (IsOlder term (take index self.now.0)) }
+        ensures told { result ≡ (nat_le index (rising self.now.0) && nat_lt (term_at self.now.0 index) term) }
+        ensures older { OnTrue result (IsOlder term (take index self.now.0)) }
     {
         index <= self.rising && self.term_at(index) < term
     }

@@ -10,7 +10,7 @@ returns-then-is_older c =
     let log = c.args.log.now.0 in
     let term = c.args.term in
     let same = take_within log c.args.commit c.min-last.result (c.min-last.ensures ∙ ap (λ n. min n c.args.commit) c.len.ensures.count) in
-    let older : IsOlder term (take c.min-last.result log) = subst (λ b. OnTrue b (IsOlder term (take c.min-last.result log))) c.if-is_older.true c.is_older.ensures in
+    let older : IsOlder term (take c.min-last.result log) = subst (λ b. OnTrue b (IsOlder term (take c.min-last.result log))) c.if-is_older.true c.is_older.ensures.older in
     sym (ap (has_entry_of term) (sym same) ∙ none_older term (take c.min-last.result log) older)
 
 pub returns : goal.returns

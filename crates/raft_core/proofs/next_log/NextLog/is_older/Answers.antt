@@ -8,4 +8,4 @@ pub returns-then-index-self : goal.returns-then-index-self
 returns-then-index-self c =
     let inside = c.self.inside in
     let same = sym (take_kept c.args.index inside.keep inside.log.now.0 inside.entries.now c.if-index-self.true c.self.invariant) ∙ ap (take c.args.index) c.self.view_is in
-    subst (λ xs. OnTrue c.is_older.result (IsOlder c.args.term xs)) same c.is_older.ensures
+    subst (λ xs. OnTrue c.is_older.result (IsOlder c.args.term xs)) same c.is_older.ensures.older
