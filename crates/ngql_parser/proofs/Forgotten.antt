@@ -9,34 +9,34 @@ abbrev tail_of : {A : Type 0} → List A → List A
 tail_of [] = []
 tail_of (a ∷ others) = others
 
-abbrev head_or : {A : Type 0} → A → List A → A
+abbrev pub head_or : {A : Type 0} → A → List A → A
 head_or a [] = a
 head_or a (b ∷ bs) = b
 
 module _ {T : Type 0} (forget : T → T) where
-  none_left : (ts : List T) → [] ≡ map forget ts → ts ≡ []
+  pub none_left : (ts : List T) → [] ≡ map forget ts → ts ≡ []
   none_left [] e = refl
   none_left (t ∷ ts) e = cc
 
-  record Headed (t : T) (ts us : List T) : Type 0 where
-    head : T
-    behind : List T
-    all : us ≡ head ∷ behind
-    same : forget t ≡ forget head
-    others : map forget ts ≡ map forget behind
+  pub record Headed (t : T) (ts us : List T) : Type 0 where
+    pub head : T
+    pub behind : List T
+    pub all : us ≡ head ∷ behind
+    pub same : forget t ≡ forget head
+    pub others : map forget ts ≡ map forget behind
 
-  headed : (t : T) (ts us : List T) → map forget (t ∷ ts) ≡ map forget us → Headed t ts us
+  pub headed : (t : T) (ts us : List T) → map forget (t ∷ ts) ≡ map forget us → Headed t ts us
   headed t ts [] e = cc
   headed t ts (u ∷ us) e = record { head = u; behind = us; all = refl; same = ap (head_or (forget t)) e; others = ap tail_of e }
 
-  record Cut (u w ts : List T) : Type 0 where
-    front : List T
-    behind : List T
-    all : ts ≡ front ++ behind
-    one : map forget u ≡ map forget front
-    other : map forget w ≡ map forget behind
+  pub record Cut (u w ts : List T) : Type 0 where
+    pub front : List T
+    pub behind : List T
+    pub all : ts ≡ front ++ behind
+    pub one : map forget u ≡ map forget front
+    pub other : map forget w ≡ map forget behind
 
-  cut_at : (u w ts : List T) → map forget (u ++ w) ≡ map forget ts → Cut u w ts
+  pub cut_at : (u w ts : List T) → map forget (u ++ w) ≡ map forget ts → Cut u w ts
   cut_at [] w ts e = record { front = []; behind = ts; all = refl; one = refl; other = e }
   cut_at (t ∷ u) w ts e =
       let h = headed t (u ++ w) ts e in

@@ -9,7 +9,12 @@ pub mod Forgotten
 pub mod Bare
 pub mod SameWords
 pub mod Closing
+pub mod RefusedAlike
 pub mod Unplaced
 pub mod Printed
 pub mod PrintedReads
 pub mod PrintedDefines
+pub mod PrintedTokens
+pub mod PrintedLines
+pub mod PrintedBack
+pub mod PrintedForms

@@ -15,3 +15,4 @@ pub mod Laws
 pub mod Plain
 pub mod PlainReads
 pub mod PlainDefines
+pub mod PlainBytes

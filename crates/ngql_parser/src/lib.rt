@@ -14,10 +14,11 @@
 //! Conditions are read by a loop over the brackets that are open (`cond`), so no depth of brackets takes a stack of calls;
 //! `specs/Conds` says, by the rules, what is still to be read from where the loop stands.
 //!
-//! Laws, of what tokens spell and not of refusals: where a line is spelled, so is one of the same words, with keywords in another case and
-//! other blanks, and it says the same but for places ([`same_words_say_the_same`], `specs/Alike`, `Places`); a `;` at the end changes nothing
-//! ([`semicolon_changes_nothing`]); and the tokens of each statement in its plain form, and of each condition, spell it
-//! ([`plain_is_read`], `specs/Plain`, `PlainDefines`, `PlainReads`).
+//! Laws: a line of the same words as another, with keywords in another case and other blanks, says the same but for places, or has its first
+//! misfit at the same token ([`same_words_say_the_same`], `specs/Alike`, `Places`); a `;` at the end of what is spelled changes nothing
+//! ([`semicolon_changes_nothing`], of tokens); the tokens of each statement in its plain form, and of each condition, spell it
+//! ([`plain_is_read`], `specs/Plain`, `PlainDefines`, `PlainReads`); and so do its bytes, with a blank behind each token, so that what is
+//! printed is read back ([`printed_is_read`], `specs/PlainBytes`).
 //!
 //! Below are the tokens of `ngql_lex` and the statements of `ngql_syntax`; above is the schema book, which binds them.
 #![tactic(auto)]
@@ -50,7 +51,9 @@ mod whole;
 mod words;
 
 pub use kind::Kind;
-pub use laws::{plain_is_read, same_words_say_the_same, semicolon_changes_nothing};
+pub use laws::{
+    plain_is_read, printed_is_read, same_words_say_the_same, semicolon_changes_nothing,
+};
 pub use option::{Opt, Options};
 pub use parse_refused::ParseRefused;
 pub use refusal::Refusal;
