@@ -1,7 +1,7 @@
 //! Entries as their bytes: one of each kind, with numbers and with texts, and damage at each field of two of them.
 use crate::hex::bytes_of;
 use graph_model::{CallId, Op, Query, Vid};
-use lists::NoMemory;
+use lists::{Bytes, NoMemory};
 use part_keys::{EntryRefused, PartEntry, read_entry, write_entry};
 use std::alloc::Global;
 use std::test::Fail;
@@ -106,11 +106,20 @@ fn summary(entry: &PartEntry) -> Summary {
     }
 }
 
-/// What the bytes are read as, or the place at which they are refused.
-fn read(alloc: Global, bytes: &[u8], tagged: bool) -> Result<Result<Summary, u64>, NoMemory> {
+/// What the bytes are read as, if they are an entry's.
+fn read(alloc: Global, bytes: &[u8], tagged: bool) -> Result<Option<Summary>, NoMemory> {
     match read_entry(alloc, bytes, if tagged { 2 } else { 1 }) {
-        Ok(entry) => Ok(Ok(summary(&entry))),
-        Err(EntryRefused::BadPacket(at)) => Ok(Err(at)),
+        Ok(entry) => Ok(Some(summary(&entry))),
+        Err(EntryRefused::BadPacket(_)) => Ok(None),
+        Err(EntryRefused::NoMemory) => Err(NoMemory),
+    }
+}
+
+/// The place at which the bytes are refused, if they are no entry's.
+fn place_in(alloc: Global, bytes: &[u8], tagged: bool) -> Result<Option<u64>, NoMemory> {
+    match read_entry(alloc, bytes, if tagged { 2 } else { 1 }) {
+        Ok(_) => Ok(None),
+        Err(EntryRefused::BadPacket(at)) => Ok(Some(at)),
         Err(EntryRefused::NoMemory) => Err(NoMemory),
     }
 }
@@ -121,7 +130,7 @@ fn each_kind(rt: HostRuntime) -> Result<(), Fail> {
     for (digits, tagged, is) in ENTRIES {
         let bytes = bytes_of(alloc, digits)?;
         let found = read(alloc, bytes.as_slice(), tagged)?;
-        assert!(rt; found == Ok(is), "kind {}", is.0);
+        assert!(rt; found == Some(is), "kind {}", is.0);
     }
     Ok(())
 }
@@ -158,6 +167,15 @@ const IN_FENCE: [(usize, u8, u64); 6] = [
     (77, 2, 50),
 ];
 
+/// The bytes of these digits, with this byte at the place.
+fn damaged(alloc: Global, digits: &[u8], place: usize, byte: u8) -> Result<Vec<u8>, NoMemory> {
+    let mut bytes = Vec::from_slice(alloc, bytes_of(alloc, digits)?.as_slice())?;
+    if place < bytes.len() {
+        bytes[place] = byte;
+    }
+    Ok(bytes)
+}
+
 /// Whether the bytes with this one in them are refused at this place.
 fn is_refused(
     alloc: Global,
@@ -165,12 +183,8 @@ fn is_refused(
     tagged: bool,
     damage: (usize, u8, u64),
 ) -> Result<bool, NoMemory> {
-    let mut bytes = Vec::from_slice(alloc, bytes_of(alloc, digits)?.as_slice())?;
-    if damage.0 < bytes.len() {
-        bytes[damage.0] = damage.1;
-    }
-    let found = read(alloc, bytes.as_slice(), tagged)?;
-    Ok(found == Err(damage.2))
+    let bytes = damaged(alloc, digits, damage.0, damage.1)?;
+    Ok(place_in(alloc, bytes.as_slice(), tagged)? == Some(damage.2))
 }
 
 #[test]
@@ -198,27 +212,47 @@ fn cut_and_longer_entries(rt: HostRuntime) -> Result<(), Fail> {
     let alloc = rt.alloc();
     let mut bytes = Vec::from_slice(alloc, bytes_of(alloc, PRIME)?.as_slice())?;
     bytes.push(0)?;
-    assert!(rt; read(alloc, bytes.as_slice(), true)? == Err(64));
+    assert!(rt; place_in(alloc, bytes.as_slice(), true)? == Some(64));
     bytes.truncate(63);
-    assert!(rt; read(alloc, bytes.as_slice(), true)? == Err(63));
+    assert!(rt; place_in(alloc, bytes.as_slice(), true)? == Some(63));
     // Tagged ids are no bare ones.
-    assert!(rt; read(alloc, bytes.as_slice(), false)? == Err(23));
+    assert!(rt; place_in(alloc, bytes.as_slice(), false)? == Some(23));
     Ok(())
 }
 
-#[test]
-fn entries_are_written(rt: HostRuntime) -> Result<(), Fail> {
-    let alloc = rt.alloc();
-    let local = write_entry(alloc, &PartEntry::Local(9), 2)?;
-    let digits = bytes_of(alloc, b"02 0000000000000009")?;
-    assert_eq!(rt; local.as_slice(), digits.as_slice());
+/// The bytes of the Local of chain 9, in version 2.
+fn written_local(alloc: Global) -> Result<Bytes, NoMemory> {
+    write_entry(alloc, &PartEntry::Local(9), 2)
+}
+
+/// The bytes of client 1's call 8, which deletes vertex 5, in version 1.
+fn written_gone(alloc: Global) -> Result<Bytes, NoMemory> {
     let id = CallId {
         client: 1,
         number: 8,
     };
-    let gone = PartEntry::Vertex(id, Op::DelVertex(Vid::Num(5)));
-    let bare = write_entry(alloc, &gone, 1)?;
-    let digits = bytes_of(alloc, b"08 00000001 0000000000000008 02 0000000000000005")?;
-    assert_eq!(rt; bare.as_slice(), digits.as_slice());
+    write_entry(alloc, &PartEntry::Vertex(id, Op::DelVertex(Vid::Num(5))), 1)
+}
+
+/// Whether these are the bytes of the digits.
+fn are_digits(alloc: Global, written: &Bytes, digits: &[u8]) -> Result<bool, NoMemory> {
+    let bytes = bytes_of(alloc, digits)?;
+    Ok(written.as_slice() == bytes.as_slice())
+}
+
+#[test]
+fn a_local_is_written(rt: HostRuntime) -> Result<(), Fail> {
+    let alloc = rt.alloc();
+    let written = written_local(alloc)?;
+    assert!(rt; are_digits(alloc, &written, b"02 0000000000000009")?);
+    Ok(())
+}
+
+#[test]
+fn a_vertex_is_written(rt: HostRuntime) -> Result<(), Fail> {
+    let alloc = rt.alloc();
+    let written = written_gone(alloc)?;
+    let digits = b"08 00000001 0000000000000008 02 0000000000000005";
+    assert!(rt; are_digits(alloc, &written, digits)?);
     Ok(())
 }

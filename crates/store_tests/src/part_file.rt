@@ -70,6 +70,14 @@ fn disk_with(alloc: Global, fuse: Option<u64>) -> MemDisk {
     MemDisk::empty(alloc, Plan::new(fuse, Listed::new(alloc)))
 }
 
+/// The version of the file of this disk and the number of its records, or where it is outside the grammar.
+fn found_on<D: Disk + Drop>(alloc: Global, disk: D) -> Result<(u8, usize), OpenWhy> {
+    match Wal::recover(alloc, disk) {
+        Ok(found) => Ok((found.version, found.bodies.len())),
+        Err(WalRefused { why, disk: _ }) => Err(why),
+    }
+}
+
 /// How many records are found in the image that this pick leaves of a disk.
 fn records_after(alloc: Global, disk: MemDisk, pick: Pick) -> Result<usize, Fail> {
     let mut picks = Listed::new(alloc);
@@ -78,8 +86,8 @@ fn records_after(alloc: Global, disk: MemDisk, pick: Pick) -> Result<usize, Fail
     let Ok(disk) = rack.reopen(alloc, disk) else {
         return Err(Fail::new("the disk wasn't opened again"));
     };
-    match Wal::recover(alloc, disk) {
-        Ok(found) => Ok(found.bodies.len()),
+    match found_on(alloc, disk) {
+        Ok((_, records)) => Ok(records),
         Err(_) => Err(Fail::new("the file wasn't recovered")),
     }
 }
@@ -127,10 +135,7 @@ fn second_version(rt: HostRuntime) -> Result<(), Fail> {
     let mut file = FILE;
     file[3] = 0x32;
     assert_eq!(rt; disk.bytes(), file.as_slice());
-    match Wal::recover(alloc, disk) {
-        Ok(found) => assert!(rt; found.version == 2 && found.bodies.len() == 1),
-        Err(_) => return Err(Fail::new("no record was found")),
-    }
+    assert!(rt; matches!(found_on(alloc, disk), Ok((2, 1))));
     Ok(())
 }
 
@@ -164,17 +169,14 @@ fn a_stop_at_each_call(rt: HostRuntime) -> Result<(), Fail> {
     Ok(())
 }
 
-/// The number of records in this file, or where it is outside the grammar.
-fn found_in(alloc: Global, file: &[u8]) -> Result<Result<usize, OpenWhy>, NoMemory> {
+/// The version of this file and the number of its records, or where it is outside the grammar.
+fn found_in(alloc: Global, file: &[u8]) -> Result<Result<(u8, usize), OpenWhy>, NoMemory> {
     let disk = MemDisk::new(
         alloc,
         Listed::from_slice(alloc, file)?,
         Plan::new(None, Listed::new(alloc)),
     )?;
-    match Wal::recover(alloc, disk) {
-        Ok(found) => Ok(Ok(found.bodies.len())),
-        Err(WalRefused { why, disk: _ }) => Ok(Err(why)),
-    }
+    Ok(found_on(alloc, disk))
 }
 
 #[test]
@@ -191,7 +193,10 @@ fn damaged_files(rt: HostRuntime) -> Result<(), Fail> {
         let mut file = FILE;
         file[at] = byte;
         let found = found_in(alloc, &file)?;
-        assert!(rt; matches!(found, Ok(count) if count == records), "byte {at}");
+        assert!(rt;
+            matches!(found, Ok((1, count)) if count == records),
+            "byte {at}"
+        );
     }
     for (at, byte, place) in [(0, 0, 0), (5, 0xff, 9), (33, 0xa5, 34)] {
         let mut file = FILE;
@@ -205,31 +210,37 @@ fn damaged_files(rt: HostRuntime) -> Result<(), Fail> {
     Ok(())
 }
 
+/// A count of one entry, and no entry.
 #[test]
-fn worked_body(rt: HostRuntime) -> Result<(), Fail> {
-    let alloc = rt.alloc();
-    assert_eq!(rt; one_frame(alloc)?.as_slice(), &FILE[5..]);
-    let body = &FILE[9..33];
-    assert!(rt;
-        matches!(
-            decode(alloc, body),
-            Ok(Record {
-                term: 1,
-                vote: 1,
-                keep: 0,
-                ..
-            })
-        )
-    );
-    // A count of one entry, and no entry.
+fn an_entry_that_is_missing(rt: HostRuntime) {
     let mut damaged = FILE;
     damaged[32] = 1;
     assert!(rt;
         matches!(
-            decode(alloc, &damaged[9..33]),
+            decode(rt.alloc(), &damaged[9..33]),
             Err(FrameRefused::BadFile(24))
         )
     );
+}
+
+/// Whether the body is that of the worked record.
+fn is_worked(alloc: Global, body: &[u8]) -> bool {
+    matches!(
+        decode(alloc, body),
+        Ok(Record {
+            term: 1,
+            vote: 1,
+            keep: 0,
+            ..
+        })
+    )
+}
+
+#[test]
+fn worked_body(rt: HostRuntime) -> Result<(), Fail> {
+    let alloc = rt.alloc();
+    assert_eq!(rt; one_frame(alloc)?.as_slice(), &FILE[5..]);
+    assert!(rt; is_worked(alloc, &FILE[9..33]));
     Ok(())
 }
 
@@ -259,10 +270,7 @@ fn real_file(rt: HostRuntime) -> Result<(), Fail> {
     let Ok(disk) = rack.reopen(alloc, disk) else {
         return Err(Fail::new("the disk wasn't given again"));
     };
-    match Wal::recover(alloc, disk) {
-        Ok(found) => assert_eq!(rt; found.bodies.len(), 1),
-        Err(_) => return Err(Fail::new("no record was found")),
-    }
+    assert!(rt; matches!(found_on(alloc, disk), Ok((1, 1))));
     fs::remove_dir_all(&rt, FOLDER)?;
     Ok(())
 }
