@@ -31,20 +31,19 @@ use Rattle.schema_book.specs.declared.space.Space.{Space}
 use Rattle.schema_book.specs.Bind.{bound, bound_by, bound_in, with_entry, vertices_put, edges_put, vertices_deleted, edges_deleted, vertices_fetched, edges_fetched, walk_refused, walk_plan, walked}
 use Rattle.schema_book.specs.Columns.{are_sound}
 use Rattle.schema_book.specs.Entries.{Entries, entry_of, place_of}
-use Rattle.schema_book.specs.Exprs.{exprs_refused, cond_refused, over_refused, is_at, is_any_at, is_over, over_places}
-use Rattle.schema_book.specs.Fits.{columns_of, type_columns, is_type, is_row_of, edge_row_fits, edge_fits, query_fits, op_fits, fits_in, fits_space, bound_fits}
+use Rattle.schema_book.specs.Exprs.{exprs_of, exprs_refused, cond_refused, over_refused, is_at, is_any_at, is_over, over_places}
+use Rattle.schema_book.specs.declared.bound.Expr.{Expr}
+use Rattle.schema_book.specs.Fits.{columns_of, type_columns, is_type, is_row_of, edge_row_fits, edge_fits, expr_fits, read_fits, op_fits, fits_in, fits_space, bound_fits}
 use Rattle.schema_book.specs.Ids.{vid_of, edge_of, wrong_vid, long_vid, wrong_ends, long_ends}
 use Rattle.schema_book.specs.Lists.{wrong_vids, long_vids, vids_refused, wrong_ends_among, long_ends_among, ends_refused, vertex_dels, tag_reads, edge_reads}
 use Rattle.schema_book.specs.Puts.{vertex_counts, vertex_values, vertex_longs, vertices_refused, vertex_calls, edge_counts, edge_values, edge_longs, edges_refused, edge_place, joined_at, joined, once, edge_rows, put_call, edge_calls, edge_joined, edges_once, del_call, del_calls, ends_beyond}
 use Rattle.schema_book.specs.Refusals.{first_of, else_gives}
 use Rattle.schema_book.specs.Rows.{no_such_column, name_twice, wrong_count, wrong_value, not_set, row_of}
 use Rattle.schema_book.specs.Schema.{Schema, IsSound}
+use Rattle.schema_book.proofs.ColumnLemmas.{at_number, exprs_there, cond_there}
 use Rattle.schema_book.proofs.FitsLemmas.{or_none, unless_none, and_true, both, id_fits, ends_fit, row_fits}
 
 -- a tag or an edge type that is there
-at_number : (entries : Entries) (place : ℕ) → columns_of entries (place + 1) ≡ option_map (λ e. e.1) (slice_get entries place)
-at_number entries place = ap (columns_of entries) (let e : place + 1 ≡ suc place = omega arith in e)
-
 some_there : (o : Option (List ℕ × List Column)) → is_some o ≡ true → is_some (option_map (λ (e : List ℕ × List Column). e.1) o) ≡ true
 some_there None h = h
 some_there (Some e) h = refl
@@ -262,21 +261,21 @@ deleted_fit s ids place columns list named none =
     del_fits s ids (edges_once (map (edge_of place) list)) (edges_once_fit (edge_fits s.edges ids) (map (edge_of place) list) [] all refl)
 
 -- FETCH
-tags_fit : (s : Schema) (ids : VidKind) (place : ℕ) → is_some (columns_of s.tags (place + 1)) ≡ true → (list : List Lit)
-    → list_all (is_id_of ids) (map (λ (l : Lit). vid_of l.val) list) ≡ true → list_all (query_fits s ids) (tag_reads place list) ≡ true
+tags_fit : (s : Schema) (ids : VidKind) (place : ℕ) (shown : List Expr) → is_some (columns_of s.tags (place + 1)) ≡ true → list_all (expr_fits s.tags) shown ≡ true → (list : List Lit)
+    → list_all (is_id_of ids) (map (λ (l : Lit). vid_of l.val) list) ≡ true → list_all (read_fits s ids shown) (tag_reads place list) ≡ true
 unfolding tag_reads
-tags_fit s ids place there [] all = refl
-tags_fit s ids place there (x ∷ list) all =
+tags_fit s ids place shown there fit [] all = refl
+tags_fit s ids place shown there fit (x ∷ list) all =
     let q = and_true (is_id_of ids (vid_of x.val)) (list_all (is_id_of ids) (map (λ (l : Lit). vid_of l.val) list)) all in
-    both (both q.0 there) (tags_fit s ids place there list q.1)
+    both (both (both q.0 there) fit) (tags_fit s ids place shown there fit list q.1)
 
-reads_fit : (s : Schema) (ids : VidKind) (place : ℕ) (list : List Ends) → list_all (edge_fits s.edges ids) (map (edge_of place) list) ≡ true
-    → list_all (query_fits s ids) (edge_reads place list) ≡ true
+reads_fit : (s : Schema) (ids : VidKind) (place : ℕ) (shown : List Expr) → list_all (expr_fits s.edges) shown ≡ true → (list : List Ends) → list_all (edge_fits s.edges ids) (map (edge_of place) list) ≡ true
+    → list_all (read_fits s ids shown) (edge_reads place list) ≡ true
 unfolding edge_reads
-reads_fit s ids place [] all = refl
-reads_fit s ids place (e ∷ list) all =
+reads_fit s ids place shown fit [] all = refl
+reads_fit s ids place shown fit (e ∷ list) all =
     let q = and_true (edge_fits s.edges ids (edge_of place e)) (list_all (edge_fits s.edges ids) (map (edge_of place) list)) all in
-    both q.0 (reads_fit s ids place list q.1)
+    both (both q.0 fit) (reads_fit s ids place shown fit list q.1)
 
 -- GO: a type that is walked is there
 at_there : (name : List ℕ) (o : Option (List ℕ × List Column)) → option_map_or (λ (e : List ℕ × List Column). bytes_eq name e.0) o false ≡ true → is_some o ≡ true
@@ -312,7 +311,8 @@ walk_fits s ids words none =
     let b = or_none (cond_refused s.edges (over_places s.edges words.over) words.keep) _ a.1 in
     let c = or_none (exprs_refused s.edges (over_places s.edges words.over) words.shown) _ b.1 in
     let d = or_none (vids_refused ids words.start) None c.1 in
-    both (list_fits ids words.start d.0) (types_fit s.edges words.over (range_with_len 0 (length s.edges)))
+    let places = over_places s.edges words.over in
+    both (both (both (list_fits ids words.start d.0) (types_fit s.edges words.over (range_with_len 0 (length s.edges)))) (cond_there s.edges places words.keep)) (exprs_there s.edges places words.shown)
 
 -- a statement in a space
 moved : (s : Schema) (ids : VidKind) (x b : Bound) → x ≡ b → fits_in s ids x ≡ true → fits_in s ids b ≡ true
@@ -339,12 +339,12 @@ in_fits s ids (FetchVertex name list shown) b sound is =
     let e = entry_by s.tags name _ b (entry_of name.text s.tags) refl sound.tags.sound is in
     unmoved s ids _ b (first_of (exprs_refused s.tags (e.place ∷ []) shown ∷ vids_refused ids list ∷ [])) e.is (λ none.
     let a = or_none (exprs_refused s.tags (e.place ∷ []) shown) _ none in
-    tags_fit s ids e.place (ap is_some e.named.there) list (list_fits ids list (or_none (vids_refused ids list) None a.1).0))
+    tags_fit s ids e.place (exprs_of s.tags (e.place ∷ []) shown) (ap is_some e.named.there) (exprs_there s.tags (e.place ∷ []) shown) list (list_fits ids list (or_none (vids_refused ids list) None a.1).0))
 in_fits s ids (FetchEdge name list shown) b sound is =
     let e = entry_by s.edges name _ b (entry_of name.text s.edges) refl sound.edges.sound is in
     unmoved s ids _ b (first_of (exprs_refused s.edges (e.place ∷ []) shown ∷ ends_refused ids list ∷ [])) e.is (λ none.
     let a = or_none (exprs_refused s.edges (e.place ∷ []) shown) _ none in
-    reads_fit s ids e.place list (ends_list_fits s.edges ids e.place (ap is_some e.named.there) list (or_none (ends_refused ids list) None a.1).0))
+    reads_fit s ids e.place (exprs_of s.edges (e.place ∷ []) shown) (exprs_there s.edges (e.place ∷ []) shown) list (ends_list_fits s.edges ids e.place (ap is_some e.named.there) list (or_none (ends_refused ids list) None a.1).0))
 in_fits s ids (GoOver words) b sound is = unmoved s ids _ b (walk_refused s.edges ids words) is (walk_fits s ids words)
 
 by_space : (s : Schema) (statement : Statement) (b : Bound) (o : Option Space) → IsSound s → bound_by s statement o ≡ Ok b → fits_space s o b ≡ true

@@ -3,4 +3,5 @@ pub mod CreateLemmas
 pub mod OnceLemmas
 pub mod OverLemmas
 pub mod FitsLemmas
+pub mod ColumnLemmas
 pub mod BoundLemmas

@@ -1,5 +1,5 @@
 -- Tags, or edge types, in the order of their creation.
-use Rattle.std.specs.Prelude.{ℕ, ◌≡◌, ◌≤◌, Bool, true, is_some, List, length, Option, position, slice_get}
+use Rattle.std.specs.Prelude.{ℕ, zero, suc, ◌≡◌, ◌≤◌, Bool, true, is_some, List, length, Option, None, position, slice_get}
 use Rattle.std.specs.List.{list_all}
 use Rattle.std.specs.Map.{keys_of}
 use Rattle.std.specs.Option.{option_and_then, option_map}
@@ -18,6 +18,11 @@ place_of name entries = position (bytes_eq name) (keys_of entries)
 -- the place and the columns of the first of this name
 abbrev pub entry_of : List ℕ → Entries → Option (ℕ × List Column)
 entry_of name entries = option_and_then (λ i. option_map (λ e. (i, e.1)) (slice_get entries i)) (place_of name entries)
+
+-- the name of the tag, or the edge type, with this number
+abbrev pub name_of : Entries → ℕ → Option (List ℕ)
+name_of entries zero = None
+name_of entries (suc place) = option_map (λ e. e.0) (slice_get entries place)
 
 -- the greatest number of tags, and of edge types
 abbrev pub most_entries : ℕ

@@ -1,5 +1,5 @@
 -- What YIELD and WHERE look at, with numbers for names. The types that a statement speaks of are given by their places.
-use Rattle.std.specs.Prelude.{ℕ, ℤ, ◌+◌, pos, Bool, false, is_some, List, length, map, filter, slice_get, Option, None, Some}
+use Rattle.std.specs.Prelude.{ℕ, ◌+◌, Bool, false, is_some, List, length, map, filter, slice_get, Option, None, Some}
 use Rattle.std.specs.List.{find, filter_map, list_any, range_with_len}
 use Rattle.std.specs.Option.{option_map, option_map_or, option_and_then}
 use Rattle.std.specs.Str.{bytes_eq}
@@ -29,10 +29,6 @@ column_at entries column place = option_and_then (λ e. column_place e.1 column)
 -- the column by the number of its type and its place there
 abbrev pub place_at : Entries → List ℕ → ℕ → Option (ℕ × ℕ)
 place_at entries column place = option_map (λ k. (place + 1, k)) (column_at entries column place)
-
--- the type at a place, by its number, with its name
-abbrev pub label_at : Entries → ℕ → Option (ℤ × List ℕ)
-label_at entries place = option_map (λ e. (pos (place + 1), e.0)) (slice_get entries place)
 
 -- `name.column`: no type of the statement has this name, or it has no such column
 abbrev pub owner_refused : Entries → Spanned → Spanned → Option ℕ → Option BookRefused
@@ -65,16 +61,13 @@ places_of entries column places = filter_map (place_at entries column) places
 unfoldable pub named_places : Entries → List ℕ → List ℕ → List ℕ → List (ℕ × ℕ)
 named_places entries owner column places = filter_map (place_at entries column) (filter (is_at entries owner) places)
 
-unfoldable pub labels_of : Entries → List ℕ → List (ℤ × List ℕ)
-labels_of entries places = filter_map (label_at entries) places
-
 -- what is looked at
 unfoldable pub expr_of : Entries → List ℕ → RawExpr → Expr
 expr_of entries places raw.Src = Src
 expr_of entries places raw.Dst = Dst
 expr_of entries places raw.Rank = Rank
 expr_of entries places raw.Id = Id
-expr_of entries places raw.Label = Label (labels_of entries places)
+expr_of entries places raw.Label = Label
 expr_of entries places (raw.Property column) = Prop (places_of entries column.text places)
 expr_of entries places (raw.Named owner column) = Prop (named_places entries owner.text column.text places)
 

@@ -1,5 +1,5 @@
--- What fits a schema: rows fit columns, ids are of the space's kind, and numbers are those of tags and edge types that are there.
-use Rattle.std.specs.Prelude.{ℕ, zero, suc, ℤ, pos, negsuc, ◌&&◌, Bool, true, false, is_some, List, [], ◌∷◌, Option, None, Some, slice_get}
+-- What fits a schema: rows fit columns, ids are of the space's kind, and tags, edge types and columns are there.
+use Rattle.std.specs.Prelude.{ℕ, zero, suc, ℤ, pos, negsuc, ◌&&◌, Bool, true, false, is_some, nat_lt, List, [], ◌∷◌, length, Option, None, Some, slice_get}
 use Rattle.std.specs.List.{list_all}
 use Rattle.std.specs.Option.{option_map, option_map_or}
 use Rattle.graph_model.specs.declared.edge_id.EdgeId.{EdgeId}
@@ -15,6 +15,11 @@ use Rattle.part_keys.specs.declared.vid_kind.VidKind.{VidKind}
 use Rattle.ngql_syntax.specs.declared.define.Column.{Column}
 use Rattle.schema_book.specs.declared.bound.Bound.{Bound}
 use Rattle.schema_book.specs.declared.bound.Bound.TheVariants.{Calls, Fetch, Go}
+use Rattle.schema_book.specs.declared.bound.Expr.{Expr}
+use Rattle.schema_book.specs.declared.bound.Expr.TheVariants.{Prop}
+use Rattle.schema_book.specs.declared.bound.GoPlan.{GoPlan}
+use Rattle.schema_book.specs.declared.bound.Step.{Step}
+use Rattle.schema_book.specs.declared.bound.Step.TheVariants.{Test}
 use Rattle.schema_book.specs.declared.space.Space.{Space}
 use Rattle.schema_book.specs.Columns.{fits}
 use Rattle.schema_book.specs.Entries.{Entries}
@@ -64,6 +69,36 @@ query_fits s ids (Out v types) = walk_fits s.edges ids v types
 query_fits s ids (In v types) = walk_fits s.edges ids v types
 query_fits s ids (Both v types) = walk_fits s.edges ids v types
 
+-- a column by the number of its tag or edge type and its place there: it is there
+abbrev pub is_column : Entries → ℕ × ℕ → Bool
+is_column entries at = option_map_or (λ cs. nat_lt at.1 (length cs)) (columns_of entries at.0) false
+
+-- what is shown or compared: each column that it looks at is there
+abbrev pub expr_fits : Entries → Expr → Bool
+expr_fits entries (Prop places) = list_all (is_column entries) places
+expr_fits entries others = true
+
+abbrev pub step_fits : Entries → Step → Bool
+step_fits entries (Test e rel value) = expr_fits entries e
+step_fits entries others = true
+
+abbrev pub cond_fits : Entries → Option (List Step) → Bool
+cond_fits entries None = true
+cond_fits entries (Some steps) = list_all (step_fits entries) steps
+
+-- a read, and what is shown of what it finds: columns of tags, or of edge types
+abbrev pub entries_read : Schema → Query → Entries
+entries_read s (Tag v tag) = s.tags
+entries_read s others = s.edges
+
+abbrev pub read_fits : Schema → VidKind → List Expr → Query → Bool
+read_fits s ids shown query = query_fits s ids query && list_all (expr_fits (entries_read s query)) shown
+
+-- where a walk starts, what it follows, and what is compared and shown
+abbrev pub plan_fits : Entries → VidKind → GoPlan → Bool
+plan_fits edges ids plan =
+    list_all (is_id_of ids) plan.start && list_all (is_type edges) plan.types && cond_fits edges plan.keep && list_all (expr_fits edges) plan.shown
+
 -- an operation; it has at least one edge where it has edges
 abbrev pub op_fits : Schema → VidKind → Op → Bool
 op_fits s ids (PutEdges rows absent) = are_edges_of ids (edges_among rows) && list_all (edge_row_fits s.edges ids) rows
@@ -72,11 +107,11 @@ op_fits s ids (PutVertex v tag row absent) = is_id_of ids v && is_row_of (column
 op_fits s ids (DelVertex v) = is_id_of ids v
 op_fits s ids (Read query) = query_fits s ids query
 
--- what is bound in a space: each call, each read, or where a walk starts and what it follows
+-- what is bound in a space: each call, each read, or the walk
 abbrev pub fits_in : Schema → VidKind → Bound → Bool
 fits_in s ids (Calls ops) = list_all (op_fits s ids) ops
-fits_in s ids (Fetch plan) = list_all (query_fits s ids) plan.reads
-fits_in s ids (Go plan) = list_all (is_id_of ids) plan.start && list_all (is_type s.edges) plan.types
+fits_in s ids (Fetch plan) = list_all (read_fits s ids plan.shown) plan.reads
+fits_in s ids (Go plan) = plan_fits s.edges ids plan
 
 -- nothing that is bound fits where there is no space
 abbrev pub fits_space : Schema → Option Space → Bound → Bool

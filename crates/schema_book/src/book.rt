@@ -40,6 +40,7 @@ impl Book {
     ghost use Rattle.std.specs.Option.{option_copied};
     ghost use Rattle.schema_book.specs.Create.{space_created, created, select_refused};
     ghost use Rattle.schema_book.specs.Bind.{bound, bound_in};
+    ghost use Rattle.schema_book.specs.Entries.{name_of};
     ghost use Rattle.schema_book.specs.Fits.{bound_fits};
     ghost use Rattle.schema_book.specs.Refusals.{Gives, Makes, IsRefusal};
     ghost use Rattle.schema_book.specs.Schema.{Schema, IsSound, nothing};
@@ -60,6 +61,15 @@ impl Book {
         ensures { option_copied result ≡ self.now.space }
     {
         self.space.as_ref()
+    }
+
+    /// The name of the edge type with this number; the first has number 1.
+    pub fn edge_name(&self, number: u32) -> Option<&[u8]>
+        ensures { option_copied result ≡ name_of self.now.edges number }
+    {
+        let place = (number as usize).checked_sub(1)?;
+        let (name, _) = self.edges.at(place)?;
+        Some(name)
     }
 
     /// Makes a space, a tag or an edge type. Each refusal is that of the definition; behind one all is as it was.
@@ -129,8 +139,8 @@ impl Book {
         Ok(Made::New(1))
     }
 
-    /// What a statement says, by the schema as it is: each row fits its columns, each id is of the space's kind, and each tag and
-    /// edge type is there. Each refusal is that of the definition.
+    /// What a statement says, by the schema as it is: each row fits its columns, each id is of the space's kind, and each tag,
+    /// edge type and column is there. Each refusal is that of the definition.
     pub fn bind(&self, alloc: Global, statement: &Statement) -> Result<Bound, BookRefused>
         ensures ok { IfOk result (λ made. bound self.now statement.now ≡ Ok made) }
         ensures fits { IfOk result (λ made. bound_fits self.now made ≡ true) }

@@ -1,6 +1,6 @@
 //! What a statement binds to: calls, or reads with what they show, or a walk.
 use graph_model::{Op, Query, Types, Val, Vid};
-use lists::{Listed, Text};
+use lists::Listed;
 use ngql_syntax::{Rel, Way};
 
 /// Operations, in order; each is a call.
@@ -11,9 +11,6 @@ pub type Queries = Listed<Query>;
 
 /// Ids of vertices, in order.
 pub type Vids = Listed<Vid>;
-
-/// Edge types, each with its name.
-pub type Labels = Listed<(i32, Text)>;
 
 /// Columns: each the number of a tag or an edge type, and the place of a column of it, from 0.
 pub type Places = Listed<(u32, usize)>;
@@ -29,8 +26,8 @@ pub enum Expr {
     Rank,
     /// The id of the vertex.
     Id,
-    /// The name of the edge's type.
-    Label(Labels),
+    /// The name of the edge's type, which the book keeps.
+    Label,
     /// The value of the column that stands there for the edge's type or the vertex's tag, and null where none does.
     Prop(Places),
 }

@@ -5,7 +5,7 @@ ghost use Rattle.std.specs.List.{find};
 ghost use Rattle.schema_book.specs.Exprs as spec;
 ghost use Rattle.schema_book.specs.Refusals.{Passes};
 
-use crate::bound::{Cond, Expr, Exprs, Labels, Places, Step};
+use crate::bound::{Cond, Expr, Exprs, Places, Step};
 use crate::catalog::Catalog;
 use crate::columns::column_place;
 use crate::refused::{BookRefused, Stop};
@@ -121,20 +121,6 @@ pub fn check_cond(
     }
 }
 
-#[tactic(auto, unfolding(crate::specs::Exprs::labels_of))]
-fn labels_of(alloc: Global, types: &Catalog, places: &[usize]) -> Result<Labels, NoMemory>
-    ensures { IfOk result (λ labels. labels ≡ spec.labels_of types.now places.now) }
-{
-    let mut labels = Listed::new(alloc);
-    for place in places {
-        if let Some((name, _)) = types.at(*place) {
-            let text = Listed::from_slice(alloc, name)?;
-            labels.push((*place as i32 + 1, text))?;
-        }
-    }
-    Ok(labels)
-}
-
 fn place_at(types: &Catalog, column: &[u8], place: usize) -> Option<(u32, usize)>
     ensures { result ≡ spec.place_at types.now column.now place }
 {
@@ -197,7 +183,7 @@ fn expr_of(
         RawExpr::Dst => Ok(Expr::Dst),
         RawExpr::Rank => Ok(Expr::Rank),
         RawExpr::Id => Ok(Expr::Id),
-        RawExpr::Label => Ok(Expr::Label(labels_of(alloc, types, places)?)),
+        RawExpr::Label => Ok(Expr::Label),
         RawExpr::Property(column) => {
             let made = places_of(alloc, types, column.text.as_slice(), places)?;
             Ok(Expr::Prop(made))

@@ -9,7 +9,7 @@
 //! **Claimed.** `create` and `bind` answer just what the definitions `created` and `bound` say, and each refusal is theirs:
 //! the first in the stated order, at its first place; but for want of memory, behind which all is as it was. `select` and
 //! `drop_space` take no memory. An edge that a statement lists twice is bound once, at its first place. What is bound fits the
-//! schema: each row its columns, each id the space's kind, and each tag and edge type is there.
+//! schema: each row its columns, each id the space's kind, and each tag, edge type and column is there.
 //!
 //! **To read, and believe**, in this order: `specs/Schema` and `Entries`; `Columns` (which values a column takes); `Refusals`
 //! (what 'the first' means); `Create`; `Ids`, `Rows`, `Puts`, `Lists`, `Exprs` (what the parts of a statement become, and what
@@ -34,9 +34,7 @@ mod rows;
 mod space;
 
 pub use book::Book;
-pub use bound::{
-    Bound, Cond, Expr, Exprs, FetchPlan, GoPlan, Labels, Ops, Places, Queries, Step, Vids,
-};
+pub use bound::{Bound, Cond, Expr, Exprs, FetchPlan, GoPlan, Ops, Places, Queries, Step, Vids};
 pub use made::Made;
 pub use refused::BookRefused;
 pub use space::Space;

@@ -1,2 +1,3 @@
 pub mod Sets
 pub mod Trail
+pub mod OverSets
