@@ -4,10 +4,10 @@ use std::alloc::Global;
 
 /// The value of a digit.
 fn digit(letter: u8) -> u8 {
-    match letter {
-        b'0'..=b'9' => letter - b'0',
-        b'a'..=b'f' => letter - b'a' + 10,
-        _ => 0,
+    if letter < b'a' {
+        letter.wrapping_sub(b'0')
+    } else {
+        letter - b'a' + 10
     }
 }
 
