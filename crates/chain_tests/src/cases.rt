@@ -63,15 +63,15 @@ fn removed(alloc: Global) -> Result<EdgeHalves, NoMemory> {
     EdgeHalves::removed(alloc, &edges(alloc)?)
 }
 
-/// The record of the chain.
-pub fn record(alloc: Global) -> Result<PrimeRec, NoMemory> {
+/// The record of the chain, double or not.
+pub fn record(alloc: Global, double: bool) -> Result<PrimeRec, NoMemory> {
     let list = removed(alloc)?;
     Ok(PrimeRec {
         v: V,
         id: CALL,
         remote: 1,
         list,
-        double: false,
+        double,
     })
 }
 

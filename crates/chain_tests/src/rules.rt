@@ -1,6 +1,6 @@
 //! The rules, one line a case: the row before, what is answered, the row after.
 use crate::cases::{CALL, Row, Says, V, entry_said, message_said, record, row_in, table_with};
-use chain_leader::{give_up, on_fence, on_remote, resume};
+use chain_leader::{give_up, on_fence, on_primed, on_remote, resume};
 use lists::NoMemory;
 use part_keys::Policy;
 use std::alloc::Global;
@@ -72,6 +72,24 @@ const CANCEL: [(Row, Says, Row); 7] = [
     (Row::FenceAsked, Says::Fence, Row::FenceAsked),
 ];
 
+/// A leader of either policy takes up a chain whose record is double.
+const DOUBLE: [(Row, Says, Row); 3] = [
+    (Row::None, Says::Remote, Row::Doubled),
+    (Row::Doubled, Says::Remote, Row::Doubled),
+    (Row::DoubledAsked, Says::Remote, Row::DoubledAsked),
+];
+
+/// The record of the chain is removed.
+const REMOVED: [Row; 7] = [
+    Row::None,
+    Row::Put,
+    Row::PutAsked,
+    Row::Doubled,
+    Row::DoubledAsked,
+    Row::Fence,
+    Row::FenceAsked,
+];
+
 /// What the rule of a Done answers, and the row behind it.
 fn done(alloc: Global, before: Row) -> Result<(Says, Row), NoMemory> {
     let mut t = table_with(alloc, before)?;
@@ -94,11 +112,31 @@ fn given_up(alloc: Global, before: Row) -> Result<(Says, Row), NoMemory> {
 }
 
 /// What is sent for a chain that is taken up, and the row behind it.
-fn taken_up(alloc: Global, before: Row, policy: Policy) -> Result<(Says, Row), NoMemory> {
+fn taken_up(
+    alloc: Global,
+    before: Row,
+    policy: Policy,
+    double: bool,
+) -> Result<(Says, Row), NoMemory> {
     let mut t = table_with(alloc, before)?;
-    let rec = record(alloc)?;
+    let rec = record(alloc, double)?;
     let says = message_said(resume(alloc, &mut t, &rec, policy)?);
     Ok((says, row_in(&t)))
+}
+
+/// What is sent for a chain that begins, and its row.
+fn begun(alloc: Global) -> Result<(Says, Row), NoMemory> {
+    let mut t = table_with(alloc, Row::None)?;
+    let rec = record(alloc, false)?;
+    let says = message_said(on_primed(alloc, &mut t, &rec)?);
+    Ok((says, row_in(&t)))
+}
+
+/// The row behind the removal of the chain's record.
+fn forgotten(alloc: Global, before: Row) -> Result<Row, NoMemory> {
+    let mut t = table_with(alloc, before)?;
+    t.forget(V);
+    Ok(row_in(&t))
 }
 
 #[test]
@@ -136,10 +174,28 @@ fn a_call_is_given_up(rt: HostRuntime) -> Result<(), Fail> {
 #[test]
 fn a_chain_is_taken_up(rt: HostRuntime) -> Result<(), Fail> {
     for (before, says, after) in FORWARD {
-        assert!(rt; taken_up(rt.alloc(), before, Policy::Forward)? == (says, after));
+        assert!(rt; taken_up(rt.alloc(), before, Policy::Forward, false)? == (says, after));
     }
     for (before, says, after) in CANCEL {
-        assert!(rt; taken_up(rt.alloc(), before, Policy::Cancel)? == (says, after));
+        assert!(rt; taken_up(rt.alloc(), before, Policy::Cancel, false)? == (says, after));
+    }
+    Ok(())
+}
+
+#[test]
+fn a_double_chain_is_taken_up(rt: HostRuntime) -> Result<(), Fail> {
+    for (before, says, after) in DOUBLE {
+        assert!(rt; taken_up(rt.alloc(), before, Policy::Forward, true)? == (says, after));
+        assert!(rt; taken_up(rt.alloc(), before, Policy::Cancel, true)? == (says, after));
+    }
+    Ok(())
+}
+
+#[test]
+fn a_chain_begins_and_ends(rt: HostRuntime) -> Result<(), Fail> {
+    assert!(rt; begun(rt.alloc())? == (Says::Remote, Row::Put));
+    for before in REMOVED {
+        assert!(rt; forgotten(rt.alloc(), before)? == Row::None);
     }
     Ok(())
 }
