@@ -20,6 +20,7 @@ use Rattle.chain_leader.specs.declared.body.About.TheVariants as abouts
 use Rattle.replica_model.specs.declared.packet.Place.{Place}
 use Rattle.packet_codec.specs.Spelling.{about, behind, mark}
 use Rattle.packet_codec.specs.Fits.{may_ask, FitsAbout, FitsBehind, FitsMark, FitFew, FitsChain}
+use Rattle.raft_core.specs.Appends.{most_entries}
 use Rattle.packet_codec.specs.Reading.{about_at, behind_at, mark_at, few_at, few_entries_at, request_at, chain_at}
 use Rattle.packet_codec.proofs.AskedFormats.{asked_format}
 
@@ -88,13 +89,13 @@ mark_format =
     (λ m is. ((m.index, m.term), is, refl))
     (both_format (number_format 8 wide8) (number_format 8 wide8))
 
-few_format : IsFormat few_at (number 4) (λ n. (n < 2 ^ 32) × (n ≤ 64))
+few_format : IsFormat few_at (number 4) (λ n. (n < 2 ^ 32) × (n ≤ most_entries))
 unfolding few_at
 few_format =
-    renamed_format (λ n. (n < 2 ^ 32) × (n ≤ 64))
+    renamed_format (λ n. (n < 2 ^ 32) × (n ≤ most_entries))
     (λ n is. (is.0, leb-true _ _ is.1))
-    (λ n is. (is.0, le-leb n 64 is.1))
-    (such_format (λ n. leb n 64) (number_format 4 wide4))
+    (λ n is. (is.0, le-leb n most_entries is.1))
+    (such_format (λ n. leb n most_entries) (number_format 4 wide4))
 
 -- at most 64 entries
 pub few_entries_format : IsFormat few_entries_at entries FitFew

@@ -9,6 +9,7 @@ ghost use Rattle.packet_codec.specs.Reading.{part_at, place_at, end_at};
 
 use crate::tags::{CLIENT_END, PART_END, PEER_END};
 use byte_fields::{Misfit, Writer, read_id, read_u32};
+use graph_bytes::MOST_SMALL;
 use lists::NoMemory;
 use replica_model::{Place, To};
 
@@ -17,7 +18,7 @@ use replica_model::{Place, To};
 pub(crate) fn read_part(bytes: &[u8]) -> Result<((u32, u32), &[u8]), Misfit>
     ensures { Reads (λ x. (x.0, x.1.now)) result (part_at bytes.now) }
 {
-    let (part, rest) = read_id(bytes, 0, 64)?;
+    let (part, rest) = read_id(bytes, 0, MOST_SMALL)?;
     let (n, rest) = read_u32(rest)?;
     Ok(((part, n), rest))
 }
@@ -29,7 +30,7 @@ pub(crate) fn read_place(bytes: &[u8]) -> Result<(Place, &[u8]), Misfit>
 {
     match bytes {
         [CLIENT_END, rest @ ..] => {
-            let (sender, rest) = read_id(rest, 0, 64)?;
+            let (sender, rest) = read_id(rest, 0, MOST_SMALL)?;
             Ok((Place::Client(sender), rest))
         }
         [PEER_END, rest @ ..] => {
@@ -47,7 +48,7 @@ pub(crate) fn read_end(bytes: &[u8]) -> Result<(To, &[u8]), Misfit>
 {
     match bytes {
         [CLIENT_END, rest @ ..] => {
-            let (client, rest) = read_id(rest, 0, 64)?;
+            let (client, rest) = read_id(rest, 0, MOST_SMALL)?;
             Ok((To::Client(client), rest))
         }
         [PEER_END, rest @ ..] => {

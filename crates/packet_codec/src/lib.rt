@@ -22,6 +22,7 @@ mod packets;
 mod reading;
 mod refused;
 mod requests;
+mod room;
 mod tags;
 
 pub use kind::Kind;

@@ -8,12 +8,11 @@ use crate::chains::put_said;
 use crate::ends::{put_end, put_place};
 use crate::kind::Kind;
 use crate::messages::put_message;
+use crate::room::body_room;
 use byte_fields::Writer;
 use lists::{Bytes, NoMemory};
-use raft_log::RaftMsg;
 use replica_model::{Body, Packet, Place};
 use std::alloc::Global;
-use wal_frames::entries_room;
 
 fn put_body(out: &mut Writer, made: &Body, from: Place) -> Result<(), NoMemory>
     requires { HasSpellingBody from made.now }
@@ -26,20 +25,6 @@ fn put_body(out: &mut Writer, made: &Body, from: Place) -> Result<(), NoMemory>
     }
 }
 
-/// The most bytes of a packet but for a list, an entry or rows in it: its kind, its two ends and its other fields.
-const MOST_FIELDS: usize = 64;
-
-// How many bytes are made ready: all that an Append takes, and of any other packet its fixed fields. It is no promise: a
-// packet that needs more takes more.
-fn room_of(body: &Body) -> usize {
-    match body {
-        Body::Raft(RaftMsg::Append(_, _, _, _, entries)) => {
-            entries_room(entries).saturating_add(MOST_FIELDS)
-        }
-        _ => MOST_FIELDS,
-    }
-}
-
 /// The packet's one spelling. Refused for want of memory, and for a text, a list or an item whose length doesn't fit its
 /// four bytes; a packet that was written is one that `read_packet` reads again.
 pub fn write_packet(alloc: Global, p: &Packet) -> Result<Bytes, NoMemory>
@@ -47,7 +32,7 @@ pub fn write_packet(alloc: Global, p: &Packet) -> Result<Bytes, NoMemory>
     ensures ok { IfOk result (λ bytes. bytes ≡ packet p.now) }
     ensures fits { OnOk result (Fits p.now) }
 {
-    let mut out = Writer::with_room(alloc, room_of(&p.body))?;
+    let mut out = Writer::with_room(alloc, body_room(&p.body))?;
     out.put_byte(Kind::of_body(&p.body).number())?;
     put_place(&mut out, p.from)?;
     put_end(&mut out, p.to)?;
