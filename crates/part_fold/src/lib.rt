@@ -8,7 +8,7 @@
 //! plans ahead, takes the entries that have a spelling. So this one is what runs of worlds are computed with, and no program
 //! that serves stands on it.
 //!
-//! Below is `part_rules`, with the table; nothing is above yet.
+//! Below is `part_rules`, with the table; above is `chain_run`.
 #![tactic(auto)]
 
 mod edges;

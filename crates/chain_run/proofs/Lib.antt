@@ -1,0 +1,10 @@
+pub mod Seats
+pub mod Keeping
+pub mod Happening
+pub mod Calling
+pub mod Proposing
+pub mod Seating
+pub mod Takes
+pub mod Decides
+pub mod Seen
+pub mod Causes

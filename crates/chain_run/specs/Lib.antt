@@ -1,0 +1,4 @@
+pub mod Seats
+pub mod Shows
+pub mod Steps
+pub mod Causes
