@@ -2,9 +2,10 @@
 //!
 //! [`Chains::run`] is a world of parts behind a list of events: it equals the definition `run` of `chain_world`, event by event
 //! (`world_of` in `specs/Shows` says how it is kept), so its clauses are that crate's laws. Its graph steps are a run of the graph
-//! machine whose trace is the lawful Invokes and Replies, in order, and each answer that was sent or replied has its cause.
+//! machine whose trace is the lawful Invokes and Replies, in order; each answer that was sent has its cause, and so has each reply
+//! but Unknown.
 //!
-//! It is what lists of chain events are tried with, and needs no more speed than that: a part is folded anew from its decided list
+//! It is there to try lists of chain events with, and needs no more speed than that: a part is folded anew from its decided list
 //! where it is needed. Each event has a file, in the order of `chains.rt`: `invoking`, `leading`, `taking`, `deciding`, `applying`,
 //! `reading`, `replying`.
 //!
