@@ -10,13 +10,13 @@ use Rattle.std.specs.Ordering.{nat_cmp, is_le, MatchOrdering}
 use Rattle.std.specs.declared.cmp.Ordering.{Ordering}
 use Rattle.std.specs.declared.cmp.Ordering.TheVariants.{Less, Equal, Greater}
 use Rattle.std.proofs.lemmas.Bool.{cases_Bool, ltb-true}
-use Rattle.std.proofs.lemmas.List.{take-map, take-append-le, append-nil}
+use Rattle.std.proofs.lemmas.List.{take-map, take-append-le, append-nil, length-map}
 use Rattle.std.proofs.Math.Seq.{take-append-add}
 use Rattle.maps.specs.Places.{place_read}
 use Rattle.maps.proofs.Keys.{nat_keys}
 use Rattle.maps.proofs.Present.{read_placed}
 use Rattle.part_keys.specs.declared.chain.PrimeRec.{PrimeRec}
-use Rattle.part_machine.specs.Chains.{standing, first_behind}
+use Rattle.part_machine.specs.Chains.{standing, first_behind, all_behind}
 
 -- a chain behind the number
 abbrev pub tested : ℕ → ℕ × PrimeRec → Option PrimeRec
@@ -66,6 +66,12 @@ pub first_is : (after : ℕ) (es : List (ℕ × Option PrimeRec)) → IsStrictly
 first_is after es sorted =
     ap (take 64) (read_placed nat_keys nat_cmp refl (tested after) es sorted ∙ tested_is after (entries (standing es)))
     ∙ take-map (λ (c : ℕ × PrimeRec). c.1) 64 (filter (λ (c : ℕ × PrimeRec). nat_lt after c.0) (entries (standing es)))
+
+-- there are as many of them as stand behind the number
+pub all_are : (after : ℕ) (es : List (ℕ × Option PrimeRec)) → IsStrictlySortedBy nat_cmp (keys_of es) → length (filter_map (seen_at after) es) ≡ length (all_behind after (standing es))
+all_are after es sorted =
+    ap length (read_placed nat_keys nat_cmp refl (tested after) es sorted ∙ tested_is after (entries (standing es)))
+    ∙ length-map (all_behind after (standing es)) (λ (c : ℕ × PrimeRec). c.1)
 
 nil_taken : (k : ℕ) → ◌≡◌ {A = List PrimeRec} (take k []) []
 nil_taken zero = refl

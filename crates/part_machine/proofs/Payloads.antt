@@ -3,28 +3,31 @@ use Rattle.std.proofs.Common.{◌≡◌, List, [], ◌∷◌, length, true, pos}
 use Rattle.std.specs.Prelude.{nat_lt, not, ◌==◌, ◌&&◌}
 use Rattle.std.specs.List.{list_all}
 use Rattle.std.proofs.lemmas.Bool.{and_parts, eqb-true, leb-true}
-use Rattle.graph_bytes.specs.Fits.{HasSpellingVid, HasSpellingEnds, HasSpellingHalves, HasSpellingEdges}
+use Rattle.graph_bytes.specs.Fits.{HasSpellingVid, HasSpellingEnds, HasSpellingHalves, HasSpellingEdges, HasSpellingQuery}
 use Rattle.graph_bytes.specs.declared.id_form.IdForm.TheVariants.{Tagged}
 use Rattle.graph_bytes.proofs.EdgeFormats.{above_true}
 use Rattle.graph_model.specs.Edges.{edges_in, is_positive}
 use Rattle.graph_model.proofs.EdgeLemmas.{edges_held}
 use Rattle.graph_model.specs.declared.edge_id.EdgeId.{EdgeId}
 use Rattle.graph_model.specs.declared.half.Half.{Half}
+use Rattle.graph_model.specs.declared.query.Query.{Query}
+use Rattle.graph_model.specs.declared.query.Query.TheVariants as asked
 use Rattle.graph_model.specs.declared.op.Op.{Op}
 use Rattle.graph_model.specs.declared.op.Op.TheVariants as ops
 use Rattle.graph_model.specs.declared.vid.Vid.{Vid}
 use Rattle.graph_model.specs.declared.vid.Vid.TheVariants.{Num, Name}
 use Rattle.part_keys.specs.Fits.{HasSpelling, HasSpellingChange}
-use Rattle.part_keys.specs.Kinds.{is_id_of, is_edge_of, is_change_of, is_entry_of}
+use Rattle.part_keys.specs.Kinds.{is_id_of, is_edge_of, is_change_of, is_query_of, is_entry_of}
 use Rattle.part_keys.specs.Keys.{IsOfKind}
-use Rattle.part_keys.specs.Routing.{part_of, all_from, all_into, remote_of, change_belongs, routes_to, is_read}
+use Rattle.part_keys.specs.Routing.{part_of, all_from, all_into, remote_of, part_of_query, change_belongs, routes_to, is_read}
 use Rattle.part_keys.specs.declared.entry.PartEntry.{PartEntry}
 use Rattle.part_keys.specs.declared.entry.PartEntry.TheVariants.{Prime, Local, Double, Close, Abort, Remote, Fence, Vertex, Read}
 use Rattle.part_keys.specs.declared.vid_kind.VidKind.{VidKind}
 use Rattle.part_keys.specs.declared.vid_kind.VidKind.TheVariants as kinds
+use Rattle.part_views.specs.Views.{IsAsked}
 use Rattle.part_store.specs.Settings.{IsEdge, AreFrom, AreInto, AreEnds}
 use Rattle.part_store.specs.declared.setting.Setting.{Setting}
-use Rattle.part_machine.specs.Laws.{HasEdges, PayloadsAreTaken}
+use Rattle.part_machine.specs.Laws.{HasEdges, PayloadsAreTaken, ReadsAreAsked}
 use Rattle.part_machine.specs.Taken.{IsChange, IsTaken}
 
 of_kind : (ids : VidKind) (v : Vid) → is_id_of ids v ≡ true → HasSpellingVid Tagged v → IsOfKind ids v
@@ -87,6 +90,20 @@ module _ (s : Setting) where
   taken_is (Close v) is here spelled edges = tt
   taken_is (Abort v) is here spelled edges = tt
   taken_is (Read id query) is here spelled edges = tt
+
+  asked_is : (query : Query) → is_query_of s.ids query ≡ true → part_of_query s.parts query ≡ s.part → HasSpellingQuery Tagged query → IsAsked s query
+  asked_is (asked.Tag v tag) is here spelled = record { of = of_kind s.ids v is spelled; here = here }
+  asked_is (asked.Edge e) is here spelled =
+      let both = and_parts (is_id_of s.ids e.src) (is_id_of s.ids e.dst) is in
+      record { edge = record { src = of_kind s.ids e.src both.0 spelled.0; dst = of_kind s.ids e.dst both.1 spelled.2; positive = spelled.1 }; here = here }
+  asked_is (asked.Out v types) is here spelled = record { of = of_kind s.ids v is spelled.0; here = here }
+  asked_is (asked.In v types) is here spelled = record { of = of_kind s.ids v is spelled.0; here = here }
+  asked_is (asked.Both v types) is here spelled = record { of = of_kind s.ids v is spelled.0; here = here }
+
+pub reads_are_asked : ReadsAreAsked
+reads_are_asked s id query is spelled =
+    let b = and_parts (is_query_of s.ids query) (part_of_query s.parts query == s.part) is in
+    asked_is s query b.0 (eqb-true _ _ b.1) spelled.1
 
 pub payloads_are_taken : PayloadsAreTaken
 payloads_are_taken s entry is spelled edges =

@@ -27,6 +27,10 @@ abbrev pub turn_back : Chains → Option Turn → Option Turn
 turn_back chains None = None
 turn_back chains (Some turn) = Some (record { at = turn.at; chain = get chains turn.at })
 
+-- the chains behind a number
+abbrev pub all_behind : ℕ → Chains → List (ℕ × PrimeRec)
+all_behind after chains = filter (λ (c : ℕ × PrimeRec). nat_lt after c.0) (entries chains)
+
 -- the first chains behind a number, as many as are taken up at once
 abbrev pub first_behind : ℕ → Chains → List PrimeRec
-first_behind after chains = map (λ (c : ℕ × PrimeRec). c.1) (take at_once (filter (λ (c : ℕ × PrimeRec). nat_lt after c.0) (entries chains)))
+first_behind after chains = map (λ (c : ℕ × PrimeRec). c.1) (take at_once (all_behind after chains))

@@ -8,16 +8,19 @@
 //!   reserved;
 //! - `apply` takes the first entry that is reserved: the state behind it and the answer are those of the table
 //!   (`applied` of `part_rules`), and it takes no memory;
-//! - `view` finds what the query finds in the state, `primes` gives the first chains behind a number.
+//! - `answer` and `begun` tell of a reserved entry what it will be answered and which chain begins with it;
+//! - `view` finds what the query finds in the state, `primes` gives the first chains behind a number, `more_primes` tells
+//!   whether there are more, and `stands` whether a chain stands.
 //!
 //! A plan is what an entry writes, the turn of the index, and the answer. Reading order: `planning` with one file a
 //! kind of entry (`priming`, `ending`, `remoting`, `vertices`; `calls` and `edges` serve them), `chains` (the index), `playing`
-//! with `undoing` (how a list is planned), `machine`. Which entries are taken stands in `specs/Taken`; what a part's log may
-//! hold is taken (`payloads_are_taken`).
+//! with `undoing` (how a list is planned), `machine`, `ahead`. Which entries are taken stands in `specs/Taken`; what a part's log may
+//! hold is taken (`payloads_are_taken`), and a read that belongs to the part is answered (`reads_are_asked`).
 //!
 //! Below are `part_store` and `part_views`, and the table of `part_rules`; above is a replica.
 #![tactic(auto)]
 
+mod ahead;
 mod back;
 mod calls;
 mod chains;
@@ -35,7 +38,7 @@ mod turn;
 mod undoing;
 mod vertices;
 
-pub use laws::payloads_are_taken;
+pub use laws::{payloads_are_taken, reads_are_asked};
 pub use machine::{Machine, PlacedEntries};
 pub use part_rules::{Applied, Kept, Outcome};
 pub use primes::Primes;

@@ -1,6 +1,7 @@
 //! The chains that stand behind a number.
-ghost use Rattle.std.specs.Prelude.{◌≡◌, IfOk};
-ghost use Rattle.part_machine.specs.Chains.{standing, first_behind};
+ghost use Rattle.std.specs.Prelude.{◌≡◌, IfOk, nat_lt, length};
+ghost use Rattle.part_rules.specs.View.{at_once};
+ghost use Rattle.part_machine.specs.Chains.{standing, first_behind, all_behind};
 
 use crate::chains::{Places, copied_chain};
 use lists::{Listed, NoMemory};
@@ -29,4 +30,22 @@ pub(crate) fn first_behind(alloc: Global, places: &Places, after: u64) -> Result
         }
     }
     Ok(made)
+}
+
+/// Whether more chains stand behind a number than are taken up at once.
+pub(crate) fn more_behind(places: &Places, after: u64) -> bool
+    ensures { result ≡ nat_lt at_once (length (all_behind after (standing places.now.entries))) }
+{
+    let mut count = 0;
+    for (v, place) in places.range(&after..) {
+        if AT_ONCE < count {
+            return true;
+        }
+        if let Some(_) = place {
+            if *v > after {
+                count += 1;
+            }
+        }
+    }
+    AT_ONCE < count
 }
