@@ -7,6 +7,8 @@ pub mod NameOrder
 pub mod RangeLemmas
 pub mod TagLemmas
 pub mod OpLemmas
+pub mod Marking
+pub mod Alike
 pub mod Sameness
 pub mod Taking
 pub mod Changing

@@ -36,12 +36,12 @@ first_le v q here = ap (λ o. is_gt (ordering_then o (nat_cmp 0 q.tag))) (equal_
 le_vids : (a b : TagKey) → IsLeBy tag_cmp a b → vid_cmp a.vid b.vid ≡ Greater → ⊥
 le_vids a b h g = let after : is_gt (tag_cmp a b) ≡ true = ap (λ o. is_gt (ordering_then o (nat_cmp a.tag b.tag))) g in cc
 
-by_order : (o : Ordering) → is_eq o ≡ false → (o ≡ Less → ⊥) → (o ≡ Greater → ⊥) → ⊥
+pub by_order : (o : Ordering) → is_eq o ≡ false → (o ≡ Less → ⊥) → (o ≡ Greater → ⊥) → ⊥
 by_order Less e l g = l refl
 by_order Equal e l g = cc
 by_order Greater e l g = g refl
 
-none_if : {X : Type 0} (o : Option X) → (IsSome o → ⊥) → o ≡ None
+pub none_if : {X : Type 0} (o : Option X) → (IsSome o → ⊥) → o ≡ None
 none_if None h = refl
 none_if (Some x) h = absurd (h refl)
 
@@ -78,7 +78,7 @@ stays v key = not (is_of v key)
 abbrev Rows : Type 0 → Type 0
 Rows X = FinMap tag_cmp X
 
-get_staying : {X : Type 0} (m : Rows X) (v : Vid) (q : TagKey) → get (retain_keys m (stays v)) q ≡ cond (stays v q) (get m q) None
+pub get_staying : {X : Type 0} (m : Rows X) (v : Vid) (q : TagKey) → get (retain_keys m (stays v)) q ≡ cond (stays v q) (get m q) None
 get_staying m v q = get-retain_keys m (stays v) q (λ x t. ap (stays v) (sym (tag_keys.exact q x t)))
 
 lost : {X : Type 0} (b : Bool) (o p : Option X) → b ≡ false → cond b o None ≡ cond b p None

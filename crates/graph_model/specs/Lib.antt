@@ -13,6 +13,8 @@ pub mod Lookups
 pub mod Steps
 pub mod After
 pub mod Changes
+pub mod Marks
+pub mod Alike
 pub mod Run
 pub mod Laws
 pub mod Visible

@@ -15,7 +15,7 @@
 //! **To read, and believe**, in this order: `specs/Contents` (rows and halves), `Views` (what a query finds), `State`,
 //! `Lookups` (what the table's words mean), `Steps` (the table of the eleven steps, each with its conditions and its effect),
 //! `Run`, `Laws` and `Visible`; `Edges`, `Names` and `Types` say what the types of a call keep. `Worked` has runs by hand.
-//! All of `proofs/`, with `specs/After` and `Changes`, serves the proofs alone.
+//! All of `proofs/`, with `specs/After`, `Changes`, `Marks` and `Alike`, serves the proofs alone.
 //!
 //! Below are the crates `lists` and `maps`; above is every crate that speaks of values, calls or answers.
 #![tactic(auto)]
@@ -39,6 +39,8 @@ mod half;
 mod in_key;
 mod in_places;
 pub mod laws;
+mod mark;
+mod marks;
 mod misfit;
 mod name;
 mod op;

@@ -57,7 +57,7 @@ impl Shelf {
     ghost use Rattle.maps.specs.Lists.{has_all, missing};
     ghost use Rattle.graph_model.specs.Contents.{nothing, out_written, in_written, tags_removed};
     ghost use Rattle.graph_model.specs.Lookups.{takes_of};
-    ghost use Rattle.graph_model.specs.Changes.{changed, after_all};
+    ghost use Rattle.graph_model.specs.Changes.{changed};
     ghost use Rattle.graph_model.specs.declared.half.Half.TheVariants.{Absent, Here};
 
     /// No tag, and no edge.
@@ -127,17 +127,6 @@ impl Shelf {
             Change::Out(list) => self.write_out(alloc, list),
             Change::In(list) => self.write_in(alloc, list),
         }
-    }
-
-    /// What the changes leave, one after another. Refused for want of memory alone.
-    pub fn after(alloc: Global, changes: &[Change]) -> Result<Self, NoMemory>
-        ensures { IfOk result (λ made. made ≡ after_all nothing changes.now) }
-    {
-        let mut made = Shelf::new(alloc);
-        for change in changes {
-            made.apply(alloc, change)?;
-        }
-        Ok(made)
     }
 
     fn push_tag(&self, view: &mut View, alloc: Global, v: &Vid, t: &u32) -> Result<(), NoMemory>

@@ -1,11 +1,15 @@
 //! The contents of a graph, and how they came about.
-ghost use Rattle.std.specs.Prelude.{◌≡◌, ◌<◌, ◌^◌, ◌++◌, ◌∷◌, [], OnOk, IfOk, take, length, vec_len, vec_capacity};
+ghost use Rattle.std.specs.Prelude.{◌≡◌, ◌≤◌, ◌<◌, ◌^◌, ◌++◌, ◌∷◌, [], OnOk, IfOk, take, length, vec_len, vec_capacity};
 ghost use Rattle.graph_model.specs.Contents.{nothing};
 ghost use Rattle.graph_model.specs.Changes.{after_all};
+ghost use Rattle.graph_model.specs.Marks.{AreMarked};
+ghost use Rattle.graph_model.specs.Alike.{AlikeAt};
 
 use crate::change::Change;
 use crate::found::View;
 use crate::half::Halves;
+use crate::mark::Mark;
+use crate::marks::{mark_at, mark_ends, next_mark};
 use crate::query::Query;
 use crate::shelf::Shelf;
 use crate::tag_key::TagKey;
@@ -13,13 +17,16 @@ use crate::val::Row;
 use crate::vid::Vid;
 use lists::NoMemory;
 use std::alloc::Global;
+use std::collections::BTreeMap;
 use std::marker::Model;
 
-/// The contents now, and what each step so far changed of them.
+/// The contents now, and what each step so far changed of them; beside the changes an index: of each vertex, the steps
+/// that changed something of it. A step may stand in the index too that changed nothing.
 #[derive(Drop)]
 pub struct Track {
     shelf: Shelf,
     changes: Vec<Change>,
+    marks: BTreeMap<Mark, ()>,
 }
 
 impl Model for Track {
@@ -27,6 +34,7 @@ impl Model for Track {
     ghost use Rattle.graph_model.specs.Contents.{nothing};
     ghost use Rattle.graph_model.specs.Changes.{Dated, dated_code, after_all, befores};
     ghost use Rattle.graph_model.specs.contracts.shelf.Shelf as shelves;
+    ghost use Rattle.graph_model.specs.Marks.{AreMarked};
 
     ghost Value = { Dated };
 
@@ -34,7 +42,10 @@ impl Model for Track {
 
     ghost view = { λ a. record { contents = a.shelf; past = befores nothing a.changes.items; spare = vec_capacity a.changes - vec_len a.changes } };
 
-    ghost invariant = { λ a. a.shelf ≡ after_all nothing a.changes.items };
+    ghost invariant = { λ a. record {
+      shelf : a.shelf ≡ after_all nothing a.changes.items;
+      marked : AreMarked a.changes.items a.marks.entries;
+    } };
 }
 
 impl Track {
@@ -53,6 +64,7 @@ impl Track {
         Track {
             shelf: Shelf::new(alloc),
             changes: Vec::new(alloc),
+            marks: BTreeMap::new(alloc),
         }
     }
 
@@ -70,8 +82,8 @@ impl Track {
         count(&self.changes)
     }
 
-    /// What a query finds in the contents after so many steps: now at once, and else in contents that are made again.
-    /// Refused for want of memory alone.
+    /// What a query finds in the contents after so many steps: now at once, and else in what those steps made of its
+    /// vertex. Refused for want of memory alone.
     pub fn view_at(&self, alloc: Global, m: u64, query: &Query) -> Result<View, NoMemory>
         ensures { IfOk result (λ view. view ≡ view_of query.now (at_moment self.now.contents self.now.past m)) }
     {
@@ -79,17 +91,15 @@ impl Track {
             let view = self.shelf.view(alloc, query)?;
             return Ok(view);
         }
-        let then = self.at(alloc, m)?;
+        let then = made_again(
+            alloc,
+            self.changes.as_slice(),
+            &self.marks,
+            &query.vertex(),
+            m,
+        )?;
         let view = then.view(alloc, query)?;
         Ok(view)
-    }
-
-    /// The contents after so many steps. Refused for want of memory alone.
-    fn at(&self, alloc: Global, m: u64) -> Result<Shelf, NoMemory>
-        ensures { IfOk result (λ shelf. shelf ≡ at_moment self.now.contents self.now.past m) }
-    {
-        let shelf = made_again(alloc, self.changes.as_slice(), m)?;
-        Ok(shelf)
     }
 
     /// Makes room for one more step. Refused for want of memory alone.
@@ -118,7 +128,9 @@ impl Track {
         ensures err_contents { OnErr result (self.new.contents ≡ self.old.contents) }
         ensures err_past { OnErr result (self.new.past ≡ self.old.past) }
     {
+        let step = count(&self.changes);
         room(&mut self.changes)?;
+        mark_ends(&mut self.marks, list.as_slice(), false, step)?;
         self.shelf.write_out(alloc, &list)?;
         add(&mut self.changes, Change::Out(list));
         Ok(())
@@ -131,7 +143,9 @@ impl Track {
         ensures err_contents { OnErr result (self.new.contents ≡ self.old.contents) }
         ensures err_past { OnErr result (self.new.past ≡ self.old.past) }
     {
+        let step = count(&self.changes);
         room(&mut self.changes)?;
+        mark_ends(&mut self.marks, list.as_slice(), true, step)?;
         self.shelf.write_in(alloc, &list)?;
         add(&mut self.changes, Change::In(list));
         Ok(())
@@ -145,7 +159,9 @@ impl Track {
         ensures err_past { OnErr result (self.new.past ≡ self.old.past) }
     {
         let change = Change::Gone(*v);
+        let step = count(&self.changes);
         room(&mut self.changes)?;
+        mark_at(&mut self.marks, v, step)?;
         self.shelf.remove_vertex(v);
         add(&mut self.changes, change);
         Ok(())
@@ -160,7 +176,9 @@ impl Track {
     {
         let kept = row.copy(alloc)?;
         let change = Change::Tag(key, row.copy(alloc)?);
+        let step = count(&self.changes);
         room(&mut self.changes)?;
+        mark_at(&mut self.marks, &key.vid, step)?;
         self.shelf.set_tag(key, kept)?;
         add(&mut self.changes, change);
         Ok(())
@@ -194,14 +212,24 @@ fn count(changes: &Vec<Change>) -> u64
     changes.len() as u64
 }
 
-/// What so many of the changes leave. Refused for want of memory alone.
-fn made_again(alloc: Global, changes: &[Change], m: u64) -> Result<Shelf, NoMemory>
-    ensures { IfOk result (λ shelf. shelf ≡ after_all nothing (take m changes.now)) }
+/// What so many of the changes leave of a vertex, in time O(log n) for each of them that changed something of it. Refused
+/// for want of memory alone.
+fn made_again(
+    alloc: Global,
+    changes: &[Change],
+    marks: &BTreeMap<Mark, ()>,
+    v: &Vid,
+    m: u64,
+) -> Result<Shelf, NoMemory>
+    requires fits { m ≤ length changes.now }
+    requires marked { AreMarked changes.now marks.now.entries }
+    ensures { IfOk result (λ shelf. AlikeAt v.now shelf (after_all nothing (take m changes.now))) }
 {
-    if m < changes.len() as u64 {
-        let shelf = Shelf::after(alloc, &changes[..m as usize])?;
-        return Ok(shelf);
+    let mut made = Shelf::new(alloc);
+    let mut from: u64 = 0;
+    'marks: while let Some(step) = next_mark(marks, v, from, m) {
+        made.apply(alloc, &changes[step as usize])?;
+        from = step + 1;
     }
-    let shelf = Shelf::after(alloc, changes)?;
-    Ok(shelf)
+    Ok(made)
 }
