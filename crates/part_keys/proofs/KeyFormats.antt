@@ -14,7 +14,7 @@ use Rattle.std.proofs.Math.Facts.{Fits-of_z, Fits-lt-pow, Fits-of_lt, sfits_to_z
 use Rattle.byte_fields.specs.Fields.{number}
 use Rattle.byte_fields.proofs.Numbers.{wide2, wide4, IsSigned, signed32, signed64}
 use Rattle.byte_fields.proofs.Formats.{IsFormat, byte_format, number_format, run_format, both_format, such_format, made_format, renamed_format, made_again, made_within, kind_takes}
-use Rattle.graph_bytes.specs.Fits.{IsSmall}
+use Rattle.graph_bytes.specs.Fits.{IsSmall, most_small}
 use Rattle.graph_model.specs.Names.{name_of}
 use Rattle.graph_model.specs.declared.name.Name as names
 use Rattle.graph_bytes.proofs.IdFormats.{name_back}
@@ -38,13 +38,13 @@ three n lt = ap (λ (x : ℕ). x ∷ number 2 n) (omega arith)
 
 part_is : (x : ℕ × ℕ) → is_part x ≡ true → ((x.0 ∷ []) ++ number 2 x.1 ≡ number 3 x.1) × IsSmall x.1
 part_is x is =
-    let o = and_true (eqb x.0 0) (ltb 0 x.1 && leb x.1 64) is in
-    let r = and_true (ltb 0 x.1) (leb x.1 64) o.1 in
-    let few : x.1 ≤ 64 = leb-true _ _ r.1 in
+    let o = and_true (eqb x.0 0) (ltb 0 x.1 && leb x.1 most_small) is in
+    let r = and_true (ltb 0 x.1) (leb x.1 most_small) o.1 in
+    let few : x.1 ≤ most_small = leb-true _ _ r.1 in
     (ap (λ (b : ℕ). b ∷ number 2 x.1) (eqb-true _ _ o.0) ∙ three x.1 (omega (arith, few)), (ltb-true _ _ r.0, few))
 
 part_true : (p : ℕ) → IsSmall p → is_part (0, p) ≡ true
-part_true p is = rw (lt-ltb 0 p is.0, le-leb p 64 is.1) refl
+part_true p is = rw (lt-ltb 0 p is.0, le-leb p most_small is.1) refl
 
 -- a part
 pub part_format : IsFormat part_at (number 3) IsSmall

@@ -4,6 +4,7 @@ use Rattle.std.specs.List.{list_all}
 use Rattle.std.specs.Int.{Width, w32, w64, byte_len, cast_signed}
 use Rattle.std.specs.Str.{is_utf8}
 use Rattle.byte_fields.specs.declared.misfit.Misfit.{Misfit}
+use Rattle.graph_bytes.specs.Fits.{most_small}
 use Rattle.byte_fields.specs.Reading.{◌>>=◌, misfit, byte_at, number_at, run_at, id_at, both_at, made_at, such_at}
 use Rattle.graph_model.specs.Names.{name_of}
 use Rattle.graph_model.specs.declared.edge_id.EdgeId.{EdgeId}
@@ -15,11 +16,11 @@ use Rattle.part_keys.specs.declared.vid_kind.VidKind.{VidKind}
 use Rattle.part_keys.specs.declared.vid_kind.VidKind.TheVariants as kinds
 use Rattle.part_keys.specs.Keys.{flip, turned, tag_kind, edge_kind, prime_kind, double_kind, guard_kind, client_kind}
 
--- a high byte that is 0, and a number from 1 to 64
+-- a high byte that is 0, and a number from 1 to the most
 abbrev pub is_part : (ℕ × ℕ) → Bool
-is_part x = x.0 == 0 && (nat_lt 0 x.1 && nat_le x.1 64)
+is_part x = x.0 == 0 && (nat_lt 0 x.1 && nat_le x.1 most_small)
 
--- a part, 1 to 64, in 3 bytes
+-- a part in 3 bytes
 unfoldable pub part_at : List ℕ → Result (ℕ × List ℕ) Misfit
 part_at bytes = made_at (λ x. x.1) (such_at is_part (both_at byte_at (number_at 2))) bytes
 
@@ -72,5 +73,5 @@ key_at kind bytes = byte_at bytes >>= λ first.
     else if first.0 == prime_kind then made_at (λ f. Prime f.0 f.1) (positive_at kind) first.1
     else if first.0 == double_kind then made_at (λ f. DoublePrime f.0 f.1) (positive_at kind) first.1
     else if first.0 == guard_kind then made_at (λ x. Guard x.0 x.1) (both_at part_at part_at) first.1
-    else if first.0 == client_kind then made_at (λ x. Client x.0 x.1) (both_at part_at (id_at 64 0)) first.1
+    else if first.0 == client_kind then made_at (λ x. Client x.0 x.1) (both_at part_at (id_at most_small 0)) first.1
     else Err (misfit bytes)

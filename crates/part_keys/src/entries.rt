@@ -18,8 +18,8 @@ use crate::refused::EntryRefused;
 use crate::room::entry_room;
 use byte_fields::{Misfit, ReadRefused, Writer, read_flag, read_id, read_u64};
 use graph_bytes::{
-    IdForm, put_call, put_edges, put_halves, put_query, put_row, put_vid, read_call, read_edges,
-    read_halves, read_query, read_row, read_tag, read_vid,
+    IdForm, MOST_SMALL, put_call, put_edges, put_halves, put_query, put_row, put_vid, read_call,
+    read_edges, read_halves, read_query, read_row, read_tag, read_vid,
 };
 use graph_model::Op;
 use lists::{Bytes, NoMemory};
@@ -41,7 +41,7 @@ fn form_of_version(version: u8) -> IdForm
 fn read_sent(bytes: &[u8]) -> Result<(((u32, u64), u64), &[u8]), Misfit>
     ensures { Reads (λ x. (x.0, x.1.now)) result (sent_at bytes.now) }
 {
-    let (source, rest) = read_id(bytes, 0, 64)?;
+    let (source, rest) = read_id(bytes, 0, MOST_SMALL)?;
     let (term, rest) = read_u64(rest)?;
     let (v, rest) = read_u64(rest)?;
     Ok((((source, term), v), rest))

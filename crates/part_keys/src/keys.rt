@@ -3,6 +3,7 @@ ghost use Rattle.std.specs.Prelude.{◌≡◌, ◌≤◌, ◌<◌, ◌+◌, ◌+
 ghost use Rattle.std.specs.Int.{w32, w64, cast_unsigned};
 ghost use Rattle.byte_fields.specs.Fields.{number};
 ghost use Rattle.std.specs.Prelude.{pos, neg_ℤ, ◌<ℤ◌};
+ghost use Rattle.graph_bytes.specs.Fits.{most_small};
 ghost use Rattle.graph_model.specs.declared.edge_id.EdgeId.{EdgeId};
 ghost use Rattle.part_keys.specs.declared.key.Key.TheVariants as keys;
 ghost use Rattle.part_keys.specs.Routing.{part_of as number_of_part};
@@ -94,7 +95,7 @@ fn put_vertex(out: &mut KeyBytes, v: &Vid, ids: VidKind)
 /// The key of a tag's row.
 pub fn tag_key(ids: VidKind, parts: u32, v: Vid, tag: u32) -> KeyBytes
     requires some { 0 < parts }
-    requires few { parts ≤ 64 }
+    requires few { parts ≤ most_small }
     requires kind { IsKind ids }
     requires of { IsOfKind ids v }
     ensures bytes { result ≡ key ids (keys.Tag (number_of_part parts v) v tag) }
@@ -112,7 +113,7 @@ pub fn tag_key(ids: VidKind, parts: u32, v: Vid, tag: u32) -> KeyBytes
 /// The key of an edge's half at its source.
 pub fn out_key(ids: VidKind, parts: u32, e: &EdgeId) -> KeyBytes
     requires some { 0 < parts }
-    requires few { parts ≤ 64 }
+    requires few { parts ≤ most_small }
     requires kind { IsKind ids }
     requires src { IsOfKind ids e.now.src }
     requires dst { IsOfKind ids e.now.dst }
@@ -144,7 +145,7 @@ fn negated(etype: &i32) -> i32
 /// The key of an edge's half at its destination: its type is negated.
 pub fn in_key(ids: VidKind, parts: u32, e: &EdgeId) -> KeyBytes
     requires some { 0 < parts }
-    requires few { parts ≤ 64 }
+    requires few { parts ≤ most_small }
     requires kind { IsKind ids }
     requires src { IsOfKind ids e.now.src }
     requires dst { IsOfKind ids e.now.dst }

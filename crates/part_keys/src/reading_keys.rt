@@ -11,6 +11,7 @@ ghost use Rattle.part_keys.specs.ReadingKeys.{part_at, flipped_at, placeholder_a
 use crate::key::{CLIENT_KIND, DOUBLE_KIND, EDGE_KIND, GUARD_KIND, Key, PRIME_KIND, TAG_KIND};
 use crate::vid_kind::VidKind;
 use byte_fields::{Misfit, read_byte, read_id, read_run, read_u16, read_u32, read_u64};
+use graph_bytes::MOST_SMALL;
 use graph_model::{EdgeId, Name, Vid};
 
 #[tactic(auto, unfolding(crate::specs::ReadingKeys::part_at, byte_fields::specs::Reading::made_at, byte_fields::specs::Reading::such_at, byte_fields::specs::Reading::both_at))]
@@ -19,7 +20,7 @@ fn read_part(bytes: &[u8]) -> Result<(u32, &[u8]), Misfit>
 {
     let (high, rest) = read_byte(bytes)?;
     let (part, rest) = read_u16(rest)?;
-    if high != 0 || part == 0 || 64 < part {
+    if high != 0 || part == 0 || MOST_SMALL < part as u32 {
         return Err(Misfit::at(bytes));
     }
     Ok((part as u32, rest))
@@ -230,7 +231,7 @@ fn read_key_front(bytes: &[u8], ids: VidKind) -> Result<(Key, &[u8]), Misfit>
         }
         [CLIENT_KIND, rest @ ..] => {
             let (part, rest) = read_part(rest)?;
-            let (client, rest) = read_id(rest, 0, 64)?;
+            let (client, rest) = read_id(rest, 0, MOST_SMALL)?;
             Ok((Key::Client(part, client), rest))
         }
         _ => Err(Misfit::at(bytes)),
