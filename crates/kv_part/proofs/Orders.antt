@@ -9,12 +9,15 @@ use Rattle.std.specs.FinMap.{IsAntisymmetric, slice_cmp-IsAntisymmetric, nat_cmp
 use Rattle.std.proofs.lemmas.Cmp.{tied_itself}
 use Rattle.byte_fields.specs.Order.{bytes_cmp}
 
+-- the order of keys is total
 pub total : IsTotalOrder bytes_cmp
 total = nat_list_cmp_total
 
+-- keys that stand equal are the same
 pub exact : IsAntisymmetric bytes_cmp
 exact = slice_cmp-IsAntisymmetric nat_cmp-IsAntisymmetric
 
+-- a key stands equal to itself
 pub itself : (a : List ℕ) → is_eq (bytes_cmp a a) ≡ true
 itself a = ap is_eq (tied_itself total a)
 
@@ -32,5 +35,6 @@ tied Less e = cc
 tied Equal e = refl
 tied Greater e = cc
 
+-- keys that are told to be equal are the same
 pub same : (a b : List ℕ) → is_eq (bytes_cmp a b) ≡ true → a ≡ b
 same a b e = exact a b (tied (bytes_cmp a b) e)

@@ -16,6 +16,7 @@ abbrev pub value_in : Option (Option (List ℕ)) → Option (List ℕ)
 value_in None = None
 value_in (Some value) = value
 
+-- what a map has after a place was set: at that key what was set
 pub get-with_at : (m : Contents) (key : List ℕ) (w : Option (List ℕ)) (q : List ℕ) → get (with_at m key w) q ≡ cond (is_eq (bytes_cmp q key)) w (get m q)
 get-with_at m key None q = get-remove total m key q
 get-with_at m key (Some v) q = get-insert total m key v q

@@ -19,6 +19,7 @@ use Rattle.kv_part.proofs.PlaceLemmas.{get-stored, value_in}
 
 -- ---- prefixes and the order
 
+-- whether a key begins with the prefix
 abbrev pub begins : List ℕ → List ℕ → Bool
 begins prefix key = starts_with nat_eq key prefix
 

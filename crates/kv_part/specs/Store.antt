@@ -6,9 +6,11 @@ use Rattle.byte_fields.specs.Order.{bytes_cmp}
 use Rattle.kv_part.specs.declared.batch.Write.{Write}
 use Rattle.kv_part.specs.declared.batch.Write.TheVariants.{Put, Remove}
 
+-- what a store has: of each key its value
 abbrev pub Contents : Type 0
 Contents = FinMap bytes_cmp (List ℕ)
 
+-- the key that a write writes
 abbrev pub key_of : Write → List ℕ
 key_of (Put key value) = key
 key_of (Remove key) = key
