@@ -79,6 +79,16 @@ impl Walk {
         }))
     }
 
+    /// The vertex that is read next; none where all were fed, or the walk is too wide.
+    pub fn next_vertex(&self) -> Option<Vid>
+        ensures { result ≡ spec.next_of self.now }
+    {
+        if self.wide {
+            return None;
+        }
+        self.rest.first()
+    }
+
     /// Whether a read is needed.
     pub fn needs(&self) -> bool
         ensures { result ≡ is_some (spec.next_of self.now) }
