@@ -1,3 +1,9 @@
 pub mod Queues
 pub mod ClientLaws
 pub mod Stories
+pub mod Naming
+pub mod Rows
+pub mod Settling
+pub mod Showing
+pub mod Hearing
+pub mod Telling

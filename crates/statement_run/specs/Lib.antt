@@ -2,3 +2,12 @@ pub mod Statement
 pub mod Caller
 pub mod Story
 pub mod Laws
+pub mod Bound
+pub mod Settled
+pub mod Named
+pub mod At
+pub mod Made
+pub mod Call
+pub mod Task
+pub mod Waiting
+pub mod Client

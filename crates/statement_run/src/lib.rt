@@ -11,9 +11,25 @@
 //! a call to make exactly where one comes next; a Round counts by one, to the last number. To be believed are `Statement` and
 //! `Caller`, and what a story is.
 //!
-//! Below is `replica_model`, for packets; above is `world_model`.
+//! [`Client`] is the program. It shows such a client (`specs/Client`), one that has made what it had to: [`Client::invoke`] queues
+//! a statement that was bound (`specs/Bound`), [`Client::on_packet`] hears a packet, [`Client::on_round`] sends the open call
+//! again, and [`Client::expire`] ends it with Unknown. Each shows what `specs/Settled` says of what was shown before, gives the
+//! Reply, the Invoke and the packet that follow, and leaves all as it was behind want of memory.
+//!
+//! Below are `replica_model`, for packets, `schema_book`, for what a statement is bound to, and `traversal`, for walks; above is
+//! `world_model`.
 #![tactic(auto)]
 
+mod call;
+mod client;
+mod copies;
+mod effects;
+mod first;
 mod laws;
+mod task;
+mod waiting;
+mod walks;
 
+pub use client::Client;
+pub use effects::{ClientEffects, Invoked, Said};
 pub use laws::{answers_count_once, calls_in_order, replies_leave, rounds_count, statements_stop};
