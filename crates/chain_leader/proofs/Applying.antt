@@ -12,9 +12,9 @@ use Rattle.part_rules.specs.Part.{Part}
 use Rattle.part_rules.specs.Machine.{applied}
 use Rattle.chain_leader.specs.declared.new_chain.NewChain.{NewChain}
 use Rattle.chain_leader.specs.Rules.{Table}
-use Rattle.chain_leader.specs.Leading.{Leading, answers_of, chain_in, forgetting, quiet, begins, ruled_by, ruled, on_entry, on_item}
+use Rattle.chain_leader.specs.Leading.{Leading, Ruled, answers_of, chain_in, forgetting, quiet, begins, ruled_by, ruled, on_entry, on_item}
 use Rattle.chain_leader.specs.Leader.{BeganBehind, StandsBehind}
-use Rattle.chain_leader.specs.Applying.{IsBehind, beginning_of, beginning_by, begun_with, entry_by}
+use Rattle.chain_leader.specs.Applying.{IsBehind, IsSaid, by_ready, beginning_of, beginning_by, begun_with, entry_by}
 use Rattle.chain_leader.proofs.Sent.{begun_table, begun_sent}
 
 -- a chain that begins
@@ -58,3 +58,16 @@ entry_item parts term index machine l of item x said begun stands e =
       same = ap (λ (s : Applied). on_entry term l (of == term) x ((applied parts index x machine).0, s)) h.answer;
       answers = ap (answers_of (of == term) x) h.answer;
     })
+
+-- what the rules send for an entry that is looked at ahead
+abbrev pub ahead : ℕ → ℕ → ℕ → Part → Bool → PartEntry → Table
+ahead parts term index machine ready x = forgetting (by_ready ready).table (applied parts index x machine).0 (chain_in x)
+
+pub said_rules : (parts term index : ℕ) (machine : Part) (ready : Bool) (of : ℕ) (item : Proposal) (x : PartEntry) (said : Applied) (begun : Option PrimeRec)
+    → item ≡ Made x → IsSaid parts index item machine said begun
+    → (begun_with ready (ahead parts term index machine ready x) (beginning_by term said begun)).letters ≡ (on_item parts term machine (by_ready ready) index (of, item)).rules
+said_rules parts term index machine ready of item x said begun e =
+    let behind = (applied parts index x machine).0 in
+    let t = ahead parts term index machine ready x in
+    subst (λ (y : Proposal). IsSaid parts index y machine said begun → (begun_with ready t (beginning_by term said begun)).letters ≡ (on_item parts term machine (by_ready ready) index (of, y)).rules) (sym e)
+    (λ h. ap (λ (r : Ruled). r.letters) (sym (rule_by ready term t behind said begun h.began)) ∙ ap (λ (s : Applied). (ruled_by ready term t behind s).letters) h.answer)

@@ -19,8 +19,8 @@ pub fn names_its_chain()
     ensures { (t : Table) → NameTheirChains t }
 {}
 
-/// A chain is put or fenced, and stays so for as long as the leader knows it: it never has both a Remote and a Fence of one
-/// term, and an Abort is asked for only of a chain that is fenced.
+/// A chain is put or fenced, and stays so for as long as the leader knows it: a table that keeps the chain sends no Remote and
+/// Fence of it both, and an Abort is asked for only of a chain that is fenced.
 pub fn one_mode()
     ensures { (t : Table) → OneMode t }
 {}

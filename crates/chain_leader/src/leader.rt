@@ -4,6 +4,7 @@ ghost use Rattle.std.specs.Option.{option_to_list};
 ghost use Rattle.part_keys.specs.Routing.{is_payload};
 ghost use Rattle.part_rules.specs.Part.{Part};
 ghost use Rattle.part_rules.specs.View.{view};
+ghost use Rattle.graph_model.specs.declared.answer.Answer.TheVariants.{Shown};
 ghost use Rattle.graph_model.specs.declared.query.Query.{Query};
 ghost use Rattle.chain_leader.specs.Calls.{is_write};
 ghost use Rattle.chain_leader.specs.Leading.{read};
@@ -18,7 +19,7 @@ use crate::rules::{give_up, on_fence, on_remote};
 use crate::table::ChainTable;
 use graph_model::{Answer, CallId, View};
 use lists::{Listed, NoMemory};
-use part_keys::{PartEntry, Policy, PrimeRec, Proposal, VidKind, is_payload};
+use part_keys::{ChainState, PartEntry, Policy, PrimeRec, Proposal, VidKind, is_payload};
 use part_rules::Applied;
 use std::alloc::Global;
 
@@ -36,10 +37,11 @@ impl Leader {
     ghost use Rattle.part_keys.specs.declared.vid_kind.VidKind.{VidKind};
     ghost use Rattle.part_rules.specs.Part.{Part};
     ghost use Rattle.chain_leader.specs.declared.body.ChainBody.TheVariants as says;
-    ghost use Rattle.chain_leader.specs.Leading.{idle, given_up, pulsed, taken, answers_of, chain_in, forgetting, started, on_entry, on_item};
+    ghost use Rattle.chain_leader.specs.Leading.{idle, given_up, pulsed, taken, told, chain_in, forgetting, started, on_entry, on_item};
     ghost use Rattle.chain_leader.specs.Leader.{leads, is_resume, StandsBehind, BeganBehind};
     ghost use Rattle.chain_leader.specs.Resuming.{AreStanding, row_for, all_taken_up, resumed_by};
-    ghost use Rattle.chain_leader.specs.Applying.{IsBehind, begun_with, entry_by};
+    ghost use Rattle.chain_leader.specs.Applying.{IsBehind, back_at, told_by, begun_with, entry_by, with_row};
+    ghost use Rattle.chain_leader.specs.Calls.{answer_of};
 
     /// A replica that doesn't lead.
     pub fn idle(alloc: Global) -> Self
@@ -150,6 +152,23 @@ impl Leader {
         self.table.forget(v);
     }
 
+    /// An item that was looked at ahead is applied: the chain that it may end is forgotten, where its record is gone, and the row
+    /// of the chain that begins is added. It takes no memory.
+    pub fn goes_on(&mut self, ends: Option<u64>, stands: bool, begins: Option<(u64, ChainState)>)
+        requires { IfSome begins (λ _. 0 < self.old.table.1) }
+        ensures leading { (behind : Part) → StandsBehind behind ends stands → leads self.new ≡ record (leads self.old) { table = with_row (forgetting self.old.table.0 behind ends) begins } }
+        ensures room { self.old.table.1 - 1 ≤ self.new.table.1 }
+    {
+        if let Some(v) = ends {
+            if !stands {
+                self.table.forget(v);
+            }
+        }
+        if let Some((v, chain)) = begins {
+            self.table.add(v, chain);
+        }
+    }
+
     /// What a leader makes of an entry that it applies, where the chain that begins is prepared: `stands` tells whether the chain
     /// that the entry may end stands behind it. It takes no memory.
     pub fn applied(
@@ -162,7 +181,8 @@ impl Leader {
     ) -> ItemLetters
         requires { IfSome made (λ _. 0 < self.old.table.1) }
         ensures leading { (behind : Part) → StandsBehind behind (chain_in entry.now) stands → leads self.new ≡ (entry_by (leads self.old) own entry.now said.now made behind).leading }
-        ensures answers { option_to_list result.told ++ option_to_list result.back ≡ answers_of own entry.now said.now }
+        ensures told { option_to_list result.told ≡ told (answer_of entry.now said.now) }
+        ensures back { option_to_list result.back ≡ back_at own entry.now said.now }
         ensures rules { (behind : Part) → StandsBehind behind (chain_in entry.now) stands → option_to_list result.rule ≡ (entry_by (leads self.old) own entry.now said.now made behind).rules }
         ensures room { self.old.table.1 - 1 ≤ self.new.table.1 }
     {
@@ -189,6 +209,7 @@ impl Leader {
     ) -> Result<ItemLetters, NoMemory>
         ensures leading { (parts index : ℕ) (machine : Part) → IsBehind parts index item.now machine said.now (option_copied begun.entry) stands → OnOk result (leads self.new ≡ (on_item parts term machine (leads self.old) index (of, item.now)).leading) }
         ensures answers { (parts index : ℕ) (machine : Part) → IsBehind parts index item.now machine said.now (option_copied begun.entry) stands → IfOk result (λ sent. option_to_list sent.told ++ option_to_list sent.back ≡ (on_item parts term machine (leads self.old) index (of, item.now)).answers) }
+        ensures told { IfOk result (λ sent. option_to_list sent.told ≡ told_by item.now said.now) }
         ensures rules { (parts index : ℕ) (machine : Part) → IsBehind parts index item.now machine said.now (option_copied begun.entry) stands → IfOk result (λ sent. option_to_list sent.rule ≡ (on_item parts term machine (leads self.old) index (of, item.now)).rules) }
         ensures err { OnErr result (leads self.new ≡ leads self.old) }
         ensures room { self.old.table.1 - 1 ≤ self.new.table.1 }
@@ -216,7 +237,8 @@ impl Leader {
         stands: bool,
     ) -> Result<ItemLetters, NoMemory>
         ensures leading { (behind : Part) → BeganBehind behind said.now (option_copied begun.entry) → StandsBehind behind (chain_in entry.now) stands → OnOk result (leads self.new ≡ (on_entry term (leads self.old) own entry.now (behind, said.now)).leading) }
-        ensures answers { IfOk result (λ sent. option_to_list sent.told ++ option_to_list sent.back ≡ answers_of own entry.now said.now) }
+        ensures told { IfOk result (λ sent. option_to_list sent.told ≡ told (answer_of entry.now said.now)) }
+        ensures back { IfOk result (λ sent. option_to_list sent.back ≡ back_at own entry.now said.now) }
         ensures rules { (behind : Part) → BeganBehind behind said.now (option_copied begun.entry) → StandsBehind behind (chain_in entry.now) stands → IfOk result (λ sent. option_to_list sent.rule ≡ (on_entry term (leads self.old) own entry.now (behind, said.now)).rules) }
         ensures err { OnErr result (leads self.new ≡ leads self.old) }
         ensures room { self.old.table.1 - 1 ≤ self.new.table.1 }
@@ -241,6 +263,7 @@ impl Leader {
         ensures leading { (ids : VidKind) (parts part from : ℕ) (machine : Part) (after : Option ℕ) → AreStanding machine after standing.now more → OnOk result (leads self.new ≡ (taken ids parts part term machine (leads self.old) (says.Resume of after) from).leading) }
         ensures sent { (ids : VidKind) (parts part from : ℕ) (machine : Part) (after : Option ℕ) → AreStanding machine after standing.now more → IfOk result (λ letters. letters ≡ (taken ids parts part term machine (leads self.old) (says.Resume of after) from).letters) }
         ensures err { OnErr result (leads self.new ≡ leads self.old) }
+        ensures room { self.old.table.1 - length standing.now ≤ self.new.table.1 }
     {
         if !self.ready {
             return Ok(Listed::new(alloc));
@@ -275,6 +298,7 @@ impl Leader {
         requires { length made.rows.items ≤ self.old.table.1 }
         ensures leading { leads self.new ≡ record (leads self.old) { table = all_taken_up made.rows.items self.old.table.0 } }
         ensures sent { result ≡ made.letters }
+        ensures room { self.old.table.1 - length made.rows.items ≤ self.new.table.1 }
     {
         let TakenUp { letters, rows } = made;
         take_up_all(&mut self.table, rows);
@@ -348,7 +372,8 @@ fn proposing(ids: VidKind, parts: u32, part: u32, entry: PartEntry) -> Option<Pa
 
 /// The answer of a read: what its query finds in the part.
 pub fn read(found: View) -> Answer
-    ensures { (machine : Part) (query : Query) → found ≡ view query machine → result ≡ read machine query }
+    ensures shown { result ≡ Shown found }
+    ensures read { (machine : Part) (query : Query) → found ≡ view query machine → result ≡ read machine query }
 {
     Answer::Shown(found)
 }

@@ -22,6 +22,7 @@
 //! Below is `part_rules`; above is `chain_world`.
 #![tactic(auto)]
 
+mod ahead;
 mod answers;
 mod body;
 mod calls;
@@ -34,6 +35,7 @@ mod resuming;
 mod rules;
 mod table;
 
+pub use ahead::{ItemAhead, item_ahead};
 pub use answers::{answer_of, back_of, call_in, chain_in, is_write, told};
 pub use body::{About, ChainBody};
 pub use calls::{entry_of, part_of_op, removal};

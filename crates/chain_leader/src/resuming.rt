@@ -1,5 +1,5 @@
 //! How a leader takes up the chains that stand.
-ghost use Rattle.std.specs.Prelude.{◌≡◌, ◌≤◌, ◌++◌, length, IfOk, OnOk, map};
+ghost use Rattle.std.specs.Prelude.{◌≡◌, ◌≤◌, ◌-◌, ◌++◌, length, IfOk, OnOk, map};
 ghost use Rattle.std.specs.Option.{option_to_list};
 ghost use Rattle.std.specs.FinMap as fin;
 ghost use Rattle.chain_leader.specs.Leader.{said_of, resumption};
@@ -121,6 +121,7 @@ pub(crate) fn go_further(
 pub(crate) fn take_up_all(t: &mut ChainTable, rows: Vec<(u64, ChainState)>)
     requires { length rows.items ≤ t.old.1 }
     ensures table { t.new.0 ≡ all_taken_up rows.items t.old.0 }
+    ensures room { t.old.1 - length rows.items ≤ t.new.1 }
 {
     for row in rows {
         t.take_up(row);

@@ -23,6 +23,7 @@ loop-row-preserved c =
       let was = at.invariant.0 in let gone = c.in-Some.ensures.steps.1 in omega arith,
       let room = at.invariant.1 in let kept = c.take_up.ensures.room in omega arith,
       ap (all_taken_up (into_iter_items c.next.new.self)) c.take_up.ensures.table ∙ ap (λ rest. all_taken_up rest at.t.0) (sym steps) ∙ at.invariant.2,
+      let left = at.invariant.3 in let kept = c.take_up.ensures.room in omega arith,
     )
 
 pub returns : goal.returns
@@ -30,4 +31,7 @@ returns c =
     let at = c.loop-row in
     let none = c.in-None.ensures.steps in
     let empty : into_iter_items at.row-iterator ≡ [] = nothing_left _ (sym at.invariant.0 ∙ none.0) in
-    record { table = subst (λ rest. all_taken_up rest at.t.0 ≡ all_taken_up c.args.rows.items c.args.t.now.0) empty at.invariant.2 }
+    record {
+      table = subst (λ rest. all_taken_up rest at.t.0 ≡ all_taken_up c.args.rows.items c.args.t.now.0) empty at.invariant.2;
+      room = let left = at.invariant.3 in omega arith;
+    }

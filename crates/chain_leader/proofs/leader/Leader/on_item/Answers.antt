@@ -1,4 +1,4 @@
-use Rattle.std.proofs.Common.{ap, ◌∙◌}
+use Rattle.std.proofs.Common.{◌++◌, ap, ◌∙◌}
 use Rattle.std.specs.Option.{option_copied}
 use Rattle.part_rules.specs.Machine.{applied}
 use Rattle.chain_leader.specs.Leader.{leads}
@@ -14,7 +14,7 @@ returns-in_ok-sent-in-Made-clause-leading c parts index machine h =
 pub returns-in_ok-sent-in-Made-clause-answers : goal.returns-in_ok-sent-in-Made-clause-answers
 returns-in_ok-sent-in-Made-clause-answers c parts index machine h =
     let k = entry_item parts c.args.term index machine (leads c.args.self.now) c.args.of c.args.item.now c.in-Made.entry c.args.said.now (option_copied c.args.begun) c.args.stands c.in-Made.is h in
-    c.in_ok-sent-in-Made.ensures.answers ∙ k.answers
+    (λ i. c.in_ok-sent-in-Made.ensures.told i ++ c.in_ok-sent-in-Made.ensures.back i) ∙ k.answers
 
 pub returns-in_ok-sent-in-Made-clause-rules : goal.returns-in_ok-sent-in-Made-clause-rules
 returns-in_ok-sent-in-Made-clause-rules c parts index machine h =
