@@ -3,6 +3,7 @@ use Rattle.std.proofs.Common.{◌≡◌, ◌⊎◌, inl, inr, ℕ, zero, suc, �
 use Rattle.std.specs.Prelude.{◌==◌, nat_lt, nat_le, if◌then◌else◌, slice_get}
 use Rattle.std.specs.List.{AllByRecursion}
 use Rattle.std.proofs.lemmas.Bool.{ltb-true, leb-true, both_ways, and_parts, false≢true, cond_both}
+use Rattle.std.proofs.lemmas.List.{take-append-le}
 use Rattle.std.proofs.lemmas.Option.{same_Some, none-some}
 use Rattle.raft_log.specs.declared.config.Config.{Config}
 use Rattle.raft_log.specs.declared.entry.Entry.{Entry}
@@ -41,6 +42,7 @@ pub record Behind (core : Core) (input : RaftInput) (made : Made) : Type 0 where
   pub unwritten : made.entries ≡ [] → made.core.log ≡ core.log
   pub rises : core.term ≤ made.core.term
   pub falls_not : core.commit ≤ made.core.commit
+  pub decided : take core.commit made.core.log ≡ take core.commit core.log
   pub peer : IsPeer made.core
   pub leads : Leads core input made.core
   pub no_longer : length made.core.log ≤ max (length core.log + 1) (reach_of input)
@@ -61,6 +63,7 @@ module _ (core : Core) (input : RaftInput) where
     unwritten = λ e. log;
     rises = term;
     falls_not = omega arith;
+    decided = ap (take core.commit) log;
     peer = peer;
     leads = leads;
     no_longer = (let e = ap length log in omega arith);
@@ -74,15 +77,16 @@ behind_still core input peer quiet = behind_same core input core [] false refl r
 
 -- one entry is put behind the log
 module _ (core : Core) (input : RaftInput) (behind : Core) (entry : Entry) where
-  pub behind_one_more : (sends : Sends) (began : Bool) → behind.me ≡ core.me → behind.log ≡ core.log ++ entry ∷ [] → core.commit ≤ behind.commit → core.term ≤ behind.term
+  pub behind_one_more : (sends : Sends) (began : Bool) → core.commit ≤ length core.log → behind.me ≡ core.me → behind.log ≡ core.log ++ entry ∷ [] → core.commit ≤ behind.commit → core.term ≤ behind.term
       → IsPeer behind → Leads core input behind → AreSentBy behind sends
       → Behind core input (record { core = behind; keep = length core.log; entries = entry ∷ []; sends = sends; began = began })
-  behind_one_more sends began me log commit term peer leads sent = record {
+  behind_one_more sends began within me log commit term peer leads sent = record {
     same = me;
     kept = log ∙ take_whole_and core.log (entry ∷ []);
     unwritten = λ e. cc;
     rises = term;
     falls_not = commit;
+    decided = ap (take core.commit) log ∙ take-append-le core.commit core.log (entry ∷ []) within;
     peer = peer;
     leads = leads;
     no_longer = (let e = ap length log ∙ length-append core.log (entry ∷ []) in omega arith);
@@ -103,11 +107,11 @@ peer_leading core peer above =
     record { within = omega arith; standing = λ s. not_leading s; leading = λ l. above; rows = λ l. fresh_rows (length core.log + 1) (length (leading core).log) (others_of core) (omega arith) (omega arith) }
 
 -- a candidate that may win now
-pub behind_ruled : (core : Core) (input : RaftInput) (c : Core) (sends : Sends) (began : Bool) → c.me ≡ core.me → c.log ≡ core.log → c.commit ≡ core.commit → core.term ≤ c.term
+pub behind_ruled : (core : Core) (input : RaftInput) (c : Core) (sends : Sends) (began : Bool) → core.commit ≤ length core.log → c.me ≡ core.me → c.log ≡ core.log → c.commit ≡ core.commit → core.term ≤ c.term
     → IsPeer c → is_leading c.role ≡ false → 0 < c.term → (is_leading core.role ≡ false) ⊎ (core.term < c.term) → ((d : Core) → AreSentBy d sends)
     → Behind core input (ruled c sends began)
-behind_ruled core input c sends began me log commit term peer unled above newly sent = cond_both (has_won c) _ _ (Behind core input)
-    (λ won. subst (λ n. Behind core input (record { core = leading c; keep = n; entries = no_op c.term ∷ []; sends = sends; began = began })) (sym (ap length log)) (behind_one_more core input (leading c) (no_op c.term) sends began me (ap (λ xs. xs ++ no_op c.term ∷ []) log) (omega arith) term
+behind_ruled core input c sends began within me log commit term peer unled above newly sent = cond_both (has_won c) _ _ (Behind core input)
+    (λ won. subst (λ n. Behind core input (record { core = leading c; keep = n; entries = no_op c.term ∷ []; sends = sends; began = began })) (sym (ap length log)) (behind_one_more core input (leading c) (no_op c.term) sends began within me (ap (λ xs. xs ++ no_op c.term ∷ []) log) (omega arith) term
     (peer_leading c peer above) (λ l. inr (record { not_before = newly; above = above; got = ap (λ xs. xs ++ no_op c.term ∷ []) log })) (sent (leading c))))
     (λ lost. behind_same core input c sends began me log commit term peer (λ l. absurd (both_ways (is_leading c.role) unled l)) (sent c))
 
@@ -119,7 +123,7 @@ asks_only core d = all_of-map _ _ (λ id. tt) _
 
 pub behind_stood : (core : Core) (input : RaftInput) → IsPeer core → (is_leading core.role ≡ true → IsProposedTo core input core.log) → Behind core input (stood core)
 behind_stood core input peer quiet = cond_both (may_stand core) _ _ (Behind core input)
-    (λ may. behind_ruled core input (standing core) (asking (standing core)) true refl refl refl (omega arith) (peer_standing core peer) refl (omega arith) (inr (omega arith)) (asks_only (standing core)))
+    (λ may. behind_ruled core input (standing core) (asking (standing core)) true peer.within refl refl refl (omega arith) (peer_standing core peer) refl (omega arith) (inr (omega arith)) (asks_only (standing core)))
     (λ not. behind_still core input peer quiet)
 
 -- A vote that came.
@@ -137,7 +141,7 @@ standing_leads_not core e = go core.role e
 pub behind_counted : (core : Core) (from : ℕ) (granted : Bool) (message : RaftMsg) → IsPeer core → Behind core (Msg from message) (counted core from granted)
 behind_counted core from granted message peer = cond_both (counts core from granted) _ _ (Behind core (Msg from message))
     (λ is. let s = standing_then core from granted is in let n = standing_leads_not core s in
-    behind_ruled core (Msg from message) (with_vote core from) [] false refl refl refl (omega arith)
+    behind_ruled core (Msg from message) (with_vote core from) [] false peer.within refl refl refl (omega arith)
     (record { within = peer.within; standing = peer.standing; leading = peer.leading; rows = peer.rows }) n (peer.standing s) (inl n) (λ d. tt))
     (λ not. behind_still core (Msg from message) peer (λ l. refl))
 
@@ -187,6 +191,7 @@ behind_taken core from term previous commit round entries peer = cond_both (is_o
           unwritten = with_nothing core.log previous entries w;
           rises = omega arith;
           falls_not = omega arith;
+          decided = s.1;
           peer = record { within = (let a = s.0 in omega arith); standing = λ e. not_leading e; leading = λ e. not_leading e; rows = λ e. not_leading e };
           leads = λ l. not_leading l;
           no_longer = omega arith;
@@ -238,6 +243,7 @@ behind_raised core term input made above b = record {
   unwritten = b.unwritten;
   rises = (let r = b.rises in omega arith);
   falls_not = b.falls_not;
+  decided = b.decided;
   peer = b.peer;
   leads = (λ l. elim (b.leads l) [
     | inl on ↦ not_leading on.led
@@ -291,7 +297,7 @@ longer_row last more h row is = record { ahead = is.ahead; within = (let w = is.
 pub behind_proposed : (core : Core) (bytes : List ℕ) → IsPeer core → Behind core (Propose bytes) (proposed core bytes)
 behind_proposed core bytes peer = cond_both (is_leading core.role) _ _ (Behind core (Propose bytes))
     (λ leads. let e = length-append core.log (payload core.term bytes ∷ []) in let w = peer.within in
-    behind_one_more core (Propose bytes) (record core { log = core.log ++ payload core.term bytes ∷ [] }) (payload core.term bytes) [] false refl refl (omega arith) (omega arith)
+    behind_one_more core (Propose bytes) (record core { log = core.log ++ payload core.term bytes ∷ [] }) (payload core.term bytes) [] false peer.within refl refl (omega arith) (omega arith)
     (record {
       within = omega arith;
       standing = peer.standing;
@@ -336,7 +342,7 @@ behind_changed core change peer = cond_both (is_leading core.role) _ _ (Behind c
     (λ not. behind_still core (ChangeInput change) peer (λ l. absurd (both_ways (is_leading core.role) not l)))
   where
     answered : (answer : Answer) → permitted core change ≡ answer → Behind core (ChangeInput change) (changed_by core change answer)
-    answered (Ok config) e = behind_one_more core (ChangeInput change) (with_members core change config) (members_entry core.term config) [] false refl refl (omega arith) (omega arith)
+    answered (Ok config) e = behind_one_more core (ChangeInput change) (with_members core change config) (members_entry core.term config) [] false peer.within refl refl (omega arith) (omega arith)
         (peer_with_members core change config peer)
         (λ l. inl (record { led = l; same_term = refl; got = subst (λ a. IsChangedBy core a (core.log ++ members_entry core.term config ∷ [])) (sym e) refl })) tt
     answered (Err refusal) e = behind_still core (ChangeInput change) peer (λ l. subst (λ a. IsChangedBy core a core.log) (sym e) refl)
@@ -405,6 +411,7 @@ behind_led core input made b sent = cond_both (is_leading made.core.role) _ _ (B
       unwritten = b.unwritten;
       rises = b.rises;
       falls_not = omega arith;
+      decided = b.decided;
       peer = record {
         within = omega arith;
         standing = p.standing;

@@ -1,12 +1,13 @@
 -- Entries behind an index, one after the other; and the configuration behind them.
-use Rattle.std.proofs.Common.{◌≡◌, refl, inl, inr, ℕ, ◌+◌, ◌-◌, ◌<◌, ◌≤◌, min, List, [], ◌∷◌, ◌++◌, length, take, drop, get_or, slice_get, Some, None, ap, sym, ◌∙◌, arith, add-one, take_all}
+use Rattle.std.proofs.Common.{◌≡◌, refl, inl, inr, Bool, true, false, ℕ, ◌+◌, ◌-◌, ◌<◌, ◌≤◌, min, List, [], ◌∷◌, ◌++◌, length, take, drop, get_or, slice_get, Some, None, ap, sym, ◌∙◌, arith, add-one, take_all, append_assoc, length-append}
+use Rattle.std.specs.Prelude.{if◌then◌else◌}
 use Rattle.std.proofs.lemmas.List.{take_more, get_or-drop, length-drop, drop-take, take-take, take-append-le, length-take-le}
 use Rattle.std.proofs.lemmas.Bool.{cases_lt}
 use Rattle.std.proofs.lemmas.Option.{slice_get_within, slice_get-get_or, get_or_from_slice_get}
 use Rattle.raft_log.specs.declared.config.Config.{Config}
 use Rattle.raft_log.specs.declared.entry.Entry.{Entry}
 use Rattle.raft_log.specs.declared.entry.Item.TheVariants.{NoOp}
-use Rattle.raft_log.specs.Log.{entry_at, config_behind, config_from, config_of, no_members}
+use Rattle.raft_log.specs.Log.{entry_at, config_behind, config_from, config_of, config_index, index_before, is_members, no_members}
 
 module _ (log : List Entry) (behind k : ℕ) where
   pub one_more : (entry : Entry) → entry_at log (behind + k + 1) ≡ Some entry → take (k + 1) (drop behind log) ≡ take k (drop behind log) ++ entry ∷ []
@@ -47,6 +48,25 @@ pub one_config : (config : Config) (entries : List Entry) (i : ℕ) (entry : Ent
     → config_from config (take (i + 1) entries) ≡ config_behind (config_from config (take i entries)) entry.item
 one_config config entries i entry inside here =
     ap (config_from config) (take_more entries i entry inside ∙ ap (λ x. take i entries ++ x ∷ []) here) ∙ from_on config (take i entries) (entry ∷ [])
+
+-- its place, where one entry more comes behind a log
+index_on : (log : List Entry) (entry : Entry) → config_index (log ++ entry ∷ []) ≡ (if is_members entry.item then length log + 1 else config_index log)
+index_on [] entry = refl
+index_on (x ∷ log) entry = ap (index_before x.item) (index_on log entry) ∙ behind_first (is_members entry.item)
+  where
+    behind_first : (b : Bool) → index_before x.item (if b then length log + 1 else config_index log) ≡ (if b then length (x ∷ log) + 1 else index_before x.item (config_index log))
+    behind_first true = ap (index_before x.item) (add-one (length log)) ∙ sym (add-one (length (x ∷ log)))
+    behind_first false = refl
+
+pub one_index : (log entries : List Entry) (i : ℕ) (entry : Entry) → i < length entries → get_or entries i entry ≡ entry
+    → config_index (log ++ take (i + 1) entries) ≡ (if is_members entry.item then length log + i + 1 else config_index (log ++ take i entries))
+one_index log entries i entry inside here =
+    let long = length-append log (take i entries) in
+    let taken = length-take-le i entries (omega (arith, inside)) in
+    ap (λ xs. config_index (log ++ xs)) (take_more entries i entry inside ∙ ap (λ x. take i entries ++ x ∷ []) here)
+    ∙ ap config_index (sym (append_assoc log (take i entries) (entry ∷ [])))
+    ∙ index_on (log ++ take i entries) entry
+    ∙ ap (λ n. if is_members entry.item then n else config_index (log ++ take i entries)) (omega (arith, long, taken))
 
 -- the entries behind an index up to another
 pub between : (behind upto : ℕ) (log : List Entry) → behind ≤ upto → take (upto - behind) (drop behind log) ≡ drop behind (take upto log)

@@ -38,6 +38,10 @@ pub record Commits (core : Core) (st : Stepped) : Type 0 where
   pub falls_not : core.commit ≤ st.core.commit
   pub within : st.core.commit ≤ length st.core.log
 
+-- keeps decided: the entries up to the commit stay
+abbrev pub KeepsDecided : Core → Stepped → Type 0
+KeepsDecided core st = take core.commit st.core.log ≡ take core.commit core.log
+
 -- the log behind an answer to a change: with the configuration that it permits, or as it was
 abbrev pub IsChangedBy : Core → Answer → List Entry → Type 0
 IsChangedBy core (Ok config) behind = behind ≡ core.log ++ members_entry core.term config ∷ []

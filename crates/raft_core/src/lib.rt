@@ -33,9 +33,9 @@ mod votes;
 pub use effects::{NotLeader, RaftEffects, Sends};
 pub use input::RaftInput;
 pub use laws::{
-    appends_as_leader, commits, gives_rounds_back, kept_is_all, no_longer, only_leaders_propose,
-    opened_again, rounds_rise, sends_its_log, speaks_in_its_term, stays_peer, worked_changes,
-    worked_rounds, worked_steps,
+    appends_as_leader, commits, gives_rounds_back, keeps_decided, kept_is_all, no_longer,
+    only_leaders_propose, opened_again, rounds_rise, sends_its_log, speaks_in_its_term, stays_peer,
+    worked_changes, worked_rounds, worked_steps,
 };
 pub use next_log::config_from;
 pub use next_peer::NextPeer;

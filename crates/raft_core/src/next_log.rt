@@ -1,9 +1,10 @@
 //! The log behind a step that is made ahead.
-ghost use Rattle.std.specs.Prelude.{◌≡◌, ◌++◌, ◌≤◌, ◌<◌, ◌-◌, ◌^◌, length, take, drop, IfOk};
+ghost use Rattle.std.specs.Prelude.{◌≡◌, ◌++◌, ◌≤◌, ◌<◌, ◌-◌, ◌^◌, List, length, take, drop, IfOk, if◌then◌else◌};
+ghost use Rattle.raft_log.specs.declared.entry.Entry.{Entry as Row};
 ghost use Rattle.std.specs.Bool.{OnTrue};
 ghost use Rattle.std.specs.Option.{option_copied};
 ghost use Rattle.raft_log.specs.Rising.{IsOlder};
-ghost use Rattle.raft_log.specs.Log.{entry_at, term_at, config_behind, config_from, config_of};
+ghost use Rattle.raft_log.specs.Log.{entry_at, term_at, config_behind, config_from, config_index, config_of, is_members};
 
 use lists::{Copied, Listed, NoMemory};
 use raft_log::{Config, Entries, Entry, Item, Peers, RaftLog};
@@ -53,6 +54,28 @@ pub fn config_from(mut config: Config, entries: &[Entry]) -> Config
         config = config_behind(config, &entry.item);
     }
     config
+}
+
+// The index of the last configuration, where an item comes at this place behind those that have one at that index.
+fn index_behind(index: u64, place: u64, item: &Item) -> u64
+    ensures { result ≡ (if is_members item.now then place else index) }
+{
+    match item {
+        Item::NoOp => index,
+        Item::Members(_) => place,
+        Item::Payload(_) => index,
+    }
+}
+
+// The index of the last configuration, where entries come behind so many that have one at that index.
+fn index_from(mut index: u64, keep: u64, entries: &[Entry]) -> u64
+    requires { keep < 2 ^ 63 }
+    ensures { (log : List Row) → keep ≡ length log → index ≡ config_index log → result ≡ config_index (log ++ entries.now) }
+{
+    for (k, entry) in entries.iter().enumerate() {
+        index = index_behind(index, keep + k as u64 + 1, &entry.item);
+    }
+    index
 }
 
 impl<'a> NextLog<'a> {
@@ -113,6 +136,18 @@ impl<'a> NextLog<'a> {
             entries.push(entry.copied(alloc)?)?;
         }
         Ok(entries)
+    }
+
+    /// The index of the last configuration, 0 where there is none.
+    pub fn config_index(&self) -> u64
+        ensures { result ≡ config_index self.now }
+    {
+        let _whole = self.log.len();
+        index_from(
+            self.log.config_up_to(self.keep).index,
+            self.keep,
+            self.entries,
+        )
     }
 
     /// The voters of the last configuration.

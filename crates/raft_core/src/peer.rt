@@ -1,6 +1,7 @@
 //! One peer of a group.
 ghost use Rattle.std.specs.Prelude.{◌≡◌, ◌≤◌, ◌++◌, length, take, OnOk, OnErr, IfOk, IfErr, None, Some, if◌then◌else◌};
 ghost use Rattle.raft_log.specs.Config.{AreEntries};
+ghost use Rattle.raft_log.specs.Log.{config_index};
 ghost use Rattle.raft_core.specs.Ahead.{core_with, IsInput, AreMessages};
 ghost use Rattle.raft_core.specs.Core.{opened, is_leading, is_ready};
 ghost use Rattle.raft_core.specs.Durable.{crashed};
@@ -194,6 +195,14 @@ impl RaftCore {
             decided: self.log.config_up_to(self.state.commit),
             ready: self.is_ready(),
         }
+    }
+
+    /// The index of the last configuration behind a step that was made ahead, 0 where there is none.
+    pub fn config_index(&self, behind: &NextPeer) -> u64
+        requires { behind.now.keep ≤ length (core_of self.now).log }
+        ensures { result ≡ config_index (core_next (core_of self.now).log behind.now).log }
+    {
+        NextLog::new(&self.log, behind.keep, behind.entries.as_slice()).config_index()
     }
 
     // Whether the peer leads, and has committed its no-op.
