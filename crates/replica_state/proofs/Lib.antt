@@ -1,2 +1,5 @@
 mod Empty
+mod Posted
+mod Rows
 mod Sourced
+mod Wiped

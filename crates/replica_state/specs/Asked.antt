@@ -1,7 +1,12 @@
 -- What the program says that an input asks, as what it asks.
-use Rattle.std.specs.Prelude.{[], ◌∷◌, Option, None, Some}
+use Rattle.std.specs.Prelude.{◌≡◌, [], ◌∷◌, Option, None, Some, true}
+use Rattle.graph_bytes.specs.declared.id_form.IdForm.TheVariants.{Tagged}
 use Rattle.maps.specs.Maps.{altered}
+use Rattle.part_keys.specs.Fits.{HasSpelling}
+use Rattle.part_keys.specs.Routing.{belongs}
 use Rattle.part_keys.specs.declared.entry.PartEntry.{PartEntry}
+use Rattle.part_keys.specs.declared.entry.PartEntry.TheVariants.{Read}
+use Rattle.raft_core.specs.Ahead.{IsInput}
 use Rattle.chain_leader.specs.Rules.{Table}
 use Rattle.chain_leader.specs.Table.{with_asked, with_double}
 use Rattle.chain_leader.specs.Leading.{Leading, Taken, still, resuming, standing_behind}
@@ -11,6 +16,7 @@ use Rattle.replica_state.specs.declared.asked.Rule.{Rule}
 use Rattle.replica_state.specs.declared.asked.Rule.TheVariants.{Stays, Asks as AsksFor, Doubles}
 use Rattle.replica_state.specs.declared.asked.Asked.{Asked}
 use Rattle.replica_state.specs.declared.asked.Asked.TheVariants as asked
+use Rattle.replica_state.specs.declared.whose.Whose.{Whose}
 
 -- the table behind a rule that proposes
 abbrev pub ruled_table : Rule → Table → Table
@@ -40,3 +46,9 @@ asked_of home r asked.Quiet = Leads (still r.lead)
 asked_of home r (asked.Resumes after) = Leads (resuming r.core.term r.lead (standing_behind (machine_of home r) after))
 asked_of home r (asked.Raft input rule sender) = Raft input (ruled rule r.lead) sender
 asked_of home r (asked.Reads id query) = Reads id query
+
+-- What is asked of the Raft peer is an input that it takes; a read belongs to the part, and has a spelling.
+abbrev pub IsSound : Whose → Asked → Type 0
+IsSound s (asked.Raft input rule sender) = IsInput input
+IsSound s (asked.Reads id query) = (belongs s.ids s.parts s.part (Read id query) ≡ true) × HasSpelling Tagged (Read id query)
+IsSound s other = Unit {0}

@@ -13,7 +13,8 @@ ghost use Rattle.part_keys.specs.Routing as routes;
 ghost use Rattle.replica_model.specs.Asks as model;
 ghost use Rattle.replica_model.specs.declared.input.Tick.TheVariants as ticks;
 ghost use Rattle.replica_model.specs.Replica as replicas;
-ghost use Rattle.replica_state.specs.Asked.{offered, asked_of};
+ghost use Rattle.raft_core.specs.Ahead.{IsMessage};
+ghost use Rattle.replica_state.specs.Asked.{offered, asked_of, IsSound};
 ghost use Rattle.replica_state.specs.State as peers;
 ghost use Rattle.replica_state.specs.declared.whose.Whose.{Whose as Who};
 
@@ -77,8 +78,10 @@ fn kept_sender(from: Place, said: &ChainBody) -> Option<Place>
 
 /// A message of the own part's group. Refused for want of memory alone.
 fn asks_message(alloc: Global, s: Whose, from: Place, message: RaftMsg) -> Result<Asked, NoMemory>
-    requires { 0 < s.parts }
-    ensures { (r : replicas.Replica) → IfOk result (λ asked. asked_of (peers.home_in s) r asked ≡ model.asks_message (peers.home_in s) r from message) }
+    requires parts { 0 < s.parts }
+    requires heard { IsMessage message }
+    ensures asked { (r : replicas.Replica) → IfOk result (λ asked. asked_of (peers.home_in s) r asked ≡ model.asks_message (peers.home_in s) r from message) }
+    ensures sound { IfOk result (IsSound s) }
 {
     let Place::Peer(part, peer) = from else {
         return Ok(Asked::Nothing);
@@ -106,7 +109,8 @@ fn may_hear(alloc: Global, s: Whose, message: &RaftMsg) -> Result<bool, NoMemory
 /// What an offer asks. Refused for want of memory alone.
 fn offers(alloc: Global, offer: Offer, sender: Option<Place>) -> Result<Asked, NoMemory>
     requires { IfSome offer (λ made. HasSpelling Tagged made.0) }
-    ensures { (s : Who) (r : replicas.Replica) → IfOk result (λ asked. asked_of (peers.home_in s) r asked ≡ model.offers (peers.home_in s).spelling (offered r.lead offer) sender) }
+    ensures asked { (s : Who) (r : replicas.Replica) → IfOk result (λ asked. asked_of (peers.home_in s) r asked ≡ model.offers (peers.home_in s).spelling (offered r.lead offer) sender) }
+    ensures sound { (s : Who) → IfOk result (IsSound s) }
 {
     let Some((entry, rule)) = offer else {
         return Ok(Asked::Quiet);
@@ -117,7 +121,8 @@ fn offers(alloc: Global, offer: Offer, sender: Option<Place>) -> Result<Asked, N
 
 /// The sender of what isn't taken is told who may lead, where it has to be told.
 fn refuses(from: Place, other: Option<About>) -> Asked
-    ensures { (home : replicas.Home) (r : replicas.Replica) → asked_of home r result ≡ model.refuses from other }
+    ensures asked { (home : replicas.Home) (r : replicas.Replica) → asked_of home r result ≡ model.refuses from other }
+    ensures sound { (s : Who) → IsSound s result }
 {
     match other {
         None => Asked::Nothing,
@@ -215,7 +220,8 @@ impl ReplicaState {
 
     // A NotLeader about a chain of the table is a hint.
     fn points(&self, v: u64, peer: u32) -> Asked
-        ensures { asked_of (peers.home_of self.now) (peers.replica_of self.now) result ≡ model.points (peers.replica_of self.now) (record { chain = v; peer = peer }) }
+        ensures asked { asked_of (peers.home_of self.now) (peers.replica_of self.now) result ≡ model.points (peers.replica_of self.now) (record { chain = v; peer = peer }) }
+        ensures sound { IsSound self.now.whose result }
     {
         if self.leader.table.get(v).is_none() {
             return Asked::Nothing;
@@ -225,8 +231,10 @@ impl ReplicaState {
 
     // A read is taken by a ready leader, once, where it is one of the part.
     fn reads(&self, mine: bool, id: CallId, query: Query) -> Asked
-        requires { mine ≡ routes.belongs self.now.whose.ids self.now.whose.parts self.now.whose.part (Read id query) }
-        ensures { asked_of (peers.home_of self.now) (peers.replica_of self.now) result ≡ model.reads (peers.home_of self.now) (peers.replica_of self.now) (record { id = id; query = query }) }
+        requires spelled { HasSpelling Tagged (Read id query) }
+        requires mine { mine ≡ routes.belongs self.now.whose.ids self.now.whose.parts self.now.whose.part (Read id query) }
+        ensures asked { asked_of (peers.home_of self.now) (peers.replica_of self.now) result ≡ model.reads (peers.home_of self.now) (peers.replica_of self.now) (record { id = id; query = query }) }
+        ensures sound { IsSound self.now.whose result }
     {
         if !self.leader.ready {
             return Asked::Nothing;
@@ -242,7 +250,8 @@ impl ReplicaState {
 
     // A Resume of the own term is taken by a ready leader.
     fn resumes(&self, of: u64, after: Option<u64>) -> Asked
-        ensures { (from : Where) → asked_of (peers.home_of self.now) (peers.replica_of self.now) result ≡ model.takes (peers.home_of self.now) (peers.replica_of self.now) from (Resume of after) }
+        ensures asked { (from : Where) → asked_of (peers.home_of self.now) (peers.replica_of self.now) result ≡ model.takes (peers.home_of self.now) (peers.replica_of self.now) from (Resume of after) }
+        ensures sound { IsSound self.now.whose result }
     {
         if !self.leader.ready || of != self.core.view().term {
             return Asked::Quiet;
@@ -268,7 +277,8 @@ impl ReplicaState {
         requires sender { model.is_sender said from ≡ true }
         requires place { peers.IsHeardPlace from }
         requires heard { peers.IsHeardSaid said }
-        ensures { IfOk result (λ asked. asked_of (peers.home_of self.now) (peers.replica_of self.now) asked ≡ model.offers (peers.home_of self.now).spelling (rules.taken self.now.whose.ids self.now.whose.parts self.now.whose.part (peers.replica_of self.now).core.term (replicas.machine_of (peers.home_of self.now) (peers.replica_of self.now)) (peers.replica_of self.now).lead said (model.part_from from)) (model.kept_sender from said)) }
+        ensures asked { IfOk result (λ asked. asked_of (peers.home_of self.now) (peers.replica_of self.now) asked ≡ model.offers (peers.home_of self.now).spelling (rules.taken self.now.whose.ids self.now.whose.parts self.now.whose.part (peers.replica_of self.now).core.term (replicas.machine_of (peers.home_of self.now) (peers.replica_of self.now)) (peers.replica_of self.now).lead said (model.part_from from)) (model.kept_sender from said)) }
+        ensures sound { IfOk result (IsSound self.now.whose) }
     {
         let sender = kept_sender(from, &said);
         let offer = self.taken_by(from, said);
@@ -281,7 +291,8 @@ impl ReplicaState {
         requires resume { is_resume said ≡ false }
         requires place { peers.IsHeardPlace from }
         requires heard { peers.IsHeardSaid said }
-        ensures { IfOk result (λ asked. asked_of (peers.home_of self.now) (peers.replica_of self.now) asked ≡ model.takes (peers.home_of self.now) (peers.replica_of self.now) from said) }
+        ensures asked { IfOk result (λ asked. asked_of (peers.home_of self.now) (peers.replica_of self.now) asked ≡ model.takes (peers.home_of self.now) (peers.replica_of self.now) from said) }
+        ensures sound { IfOk result (IsSound self.now.whose) }
     {
         if !is_sender(&said, from) {
             return Ok(Asked::Nothing);
@@ -300,7 +311,8 @@ impl ReplicaState {
         requires parts { 0 < self.now.whose.parts }
         requires place { peers.IsHeardPlace from }
         requires heard { peers.IsHeardSaid (Request number entry) }
-        ensures { IfOk result (λ asked. asked_of (peers.home_of self.now) (peers.replica_of self.now) asked ≡ model.asks_leader (peers.home_of self.now) (peers.replica_of self.now) from (Request number entry) None (model.query_of entry)) }
+        ensures asked { IfOk result (λ asked. asked_of (peers.home_of self.now) (peers.replica_of self.now) asked ≡ model.asks_leader (peers.home_of self.now) (peers.replica_of self.now) from (Request number entry) None (model.query_of entry)) }
+        ensures sound { IfOk result (IsSound self.now.whose) }
     {
         let (mine, entry) = whether_own(self.whose, entry);
         match entry {
@@ -314,7 +326,8 @@ impl ReplicaState {
         requires parts { 0 < self.now.whose.parts }
         requires place { peers.IsHeardPlace from }
         requires heard { peers.IsHeardSaid said }
-        ensures { IfOk result (λ asked. asked_of (peers.home_of self.now) (peers.replica_of self.now) asked ≡ model.asks_leader (peers.home_of self.now) (peers.replica_of self.now) from said (model.hint_in said) (model.read_in said)) }
+        ensures asked { IfOk result (λ asked. asked_of (peers.home_of self.now) (peers.replica_of self.now) asked ≡ model.asks_leader (peers.home_of self.now) (peers.replica_of self.now) from said (model.hint_in said) (model.read_in said)) }
+        ensures sound { IfOk result (IsSound self.now.whose) }
     {
         match said {
             ChainBody::NotLeader(other, _, peer) => match other {
@@ -343,7 +356,8 @@ impl ReplicaState {
         requires parts { 0 < self.now.whose.parts }
         requires place { peers.IsHeardPlace from }
         requires heard { peers.IsHeardSaid said }
-        ensures { IfOk result (λ asked. asked_of (peers.home_of self.now) (peers.replica_of self.now) asked ≡ model.asks_chain (peers.home_of self.now) (peers.replica_of self.now) from said) }
+        ensures asked { IfOk result (λ asked. asked_of (peers.home_of self.now) (peers.replica_of self.now) asked ≡ model.asks_chain (peers.home_of self.now) (peers.replica_of self.now) from said) }
+        ensures sound { IfOk result (IsSound self.now.whose) }
     {
         if !self.leads() {
             return Ok(refuses(from, about_in(self.whose, from, said)));
@@ -353,7 +367,8 @@ impl ReplicaState {
 
     // A tick. Refused for want of memory alone.
     fn asks_tick(&self, alloc: Global, tick: Tick) -> Result<Asked, NoMemory>
-        ensures { IfOk result (λ asked. asked_of (peers.home_of self.now) (peers.replica_of self.now) asked ≡ model.asks_tick (peers.home_of self.now) (peers.replica_of self.now) tick) }
+        ensures asked { IfOk result (λ asked. asked_of (peers.home_of self.now) (peers.replica_of self.now) asked ≡ model.asks_tick (peers.home_of self.now) (peers.replica_of self.now) tick) }
+        ensures sound { IfOk result (IsSound self.now.whose) }
     {
         match tick {
             Tick::Elect(_) => Ok(Asked::Raft(RaftInput::Elect, Rule::Stays, None)),
@@ -366,7 +381,8 @@ impl ReplicaState {
 
     // A call is given up. Refused for want of memory alone.
     fn gives_up(&self, alloc: Global, id: CallId) -> Result<Asked, NoMemory>
-        ensures { IfOk result (λ asked. asked_of (peers.home_of self.now) (peers.replica_of self.now) asked ≡ model.asks_tick (peers.home_of self.now) (peers.replica_of self.now) (ticks.GiveUp id)) }
+        ensures asked { IfOk result (λ asked. asked_of (peers.home_of self.now) (peers.replica_of self.now) asked ≡ model.asks_tick (peers.home_of self.now) (peers.replica_of self.now) (ticks.GiveUp id)) }
+        ensures sound { IfOk result (IsSound self.now.whose) }
     {
         if !self.leads() {
             return Ok(Asked::Nothing);
@@ -374,11 +390,13 @@ impl ReplicaState {
         offers(alloc, given_up(&self.leader, id), None)
     }
 
-    /// What an input asks. Refused for want of memory alone.
+    /// What an input asks: an input that the Raft peer takes, or a read that the part's machine answers. Refused for want of
+    /// memory alone.
     pub fn asks(&self, alloc: Global, input: Input) -> Result<Asked, NoMemory>
         requires parts { 0 < self.now.whose.parts }
         requires heard { peers.IsHeard input }
-        ensures { IfOk result (λ asked. asked_of (peers.home_of self.now) (peers.replica_of self.now) asked ≡ model.asks (peers.home_of self.now) (peers.replica_of self.now) input) }
+        ensures asked { IfOk result (λ asked. asked_of (peers.home_of self.now) (peers.replica_of self.now) asked ≡ model.asks (peers.home_of self.now) (peers.replica_of self.now) input) }
+        ensures sound { IfOk result (IsSound self.now.whose) }
     {
         match input {
             Input::Sent(Packet { from, to: _, body }) => match body {
@@ -411,7 +429,8 @@ fn waits(rows: &[WaitingRead], id: CallId) -> bool
 
 // A change of the members, of a peer from 1 on.
 fn changes(change: Change) -> Asked
-    ensures { (home : replicas.Home) (r : replicas.Replica) → asked_of home r result ≡ model.asks_tick home r (ticks.Change change) }
+    ensures asked { (home : replicas.Home) (r : replicas.Replica) → asked_of home r result ≡ model.asks_tick home r (ticks.Change change) }
+    ensures sound { (s : Who) → IsSound s result }
 {
     if change.member() == 0 {
         return Asked::Nothing;

@@ -1,9 +1,12 @@
 //! What the items of a log are to a part.
-ghost use Rattle.std.specs.Prelude.{◌≡◌, ◌<◌, IfOk};
+ghost use Rattle.std.specs.Prelude.{◌≡◌, ◌<◌, ℕ, IfOk};
+ghost use Rattle.std.specs.List.{AllByRecursion};
+ghost use Rattle.part_keys.specs.declared.proposal.Proposal.{Proposal as Value};
 ghost use Rattle.replica_model.specs.Asks as asks;
 ghost use Rattle.replica_model.specs.Bytes.{spelling_of};
 ghost use Rattle.replica_model.specs.Spelling as values;
 ghost use Rattle.replica_state.specs.State.{version, home_in};
+ghost use Rattle.replica_state.specs.Written.{IsWritten};
 
 use crate::whose::Whose;
 use lists::NoMemory;
@@ -16,7 +19,8 @@ pub(crate) const VERSION: u8 = 2;
 
 /// What an item of the log is to the part. Refused for want of memory alone.
 pub(crate) fn value_of(alloc: Global, item: &Item) -> Result<Proposal, NoMemory>
-    ensures { IfOk result (λ value. value ≡ values.value_of (spelling_of version) item.now) }
+    ensures value { IfOk result (λ value. value ≡ values.value_of (spelling_of version) item.now) }
+    ensures written { IfOk result IsWritten }
 {
     match item {
         Item::NoOp => Ok(Proposal::Start),
@@ -62,4 +66,17 @@ pub fn are_entries(alloc: Global, s: Whose, entries: &[Entry]) -> Result<bool, N
         }
     }
     Ok(true)
+}
+
+/// What entries of the log are to the part, each with its term; what was read fits its spelling. Refused for want of memory
+/// alone.
+pub fn values(alloc: Global, entries: &[Entry]) -> Result<Vec<(u64, Proposal)>, NoMemory>
+    ensures written { IfOk result (λ list. AllByRecursion (λ (value : ℕ × Value). IsWritten value.1) list.items) }
+    ensures values { IfOk result (λ list. list.items ≡ values.values_of (spelling_of version) entries.now) }
+{
+    let mut list = Vec::new(alloc);
+    for entry in entries {
+        list.push((entry.term, value_of(alloc, &entry.item)?))?;
+    }
+    Ok(list)
 }

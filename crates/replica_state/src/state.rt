@@ -13,12 +13,12 @@ use std::collections::BTreeMap;
 /// Fences that it proposed as the leader that it is, the hints of its chains, and the reads that wait.
 #[derive(Drop)]
 pub struct ReplicaState {
-    pub(crate) whose: Whose,
-    pub(crate) core: RaftCore,
-    pub(crate) leader: Leader,
-    pub(crate) senders: Places<Place>,
-    pub(crate) hints: Places<u32>,
-    pub(crate) rows: Vec<WaitingRead>,
+    pub whose: Whose,
+    pub core: RaftCore,
+    pub leader: Leader,
+    pub senders: Places<Place>,
+    pub hints: Places<u32>,
+    pub rows: Vec<WaitingRead>,
 }
 
 impl ReplicaState {

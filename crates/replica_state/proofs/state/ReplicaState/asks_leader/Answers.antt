@@ -5,7 +5,7 @@ use Rattle.replica_state.specs.Asked.{asked_of}
 use Rattle.replica_state.specs.State.{home_of, replica_of}
 use Rattle.replica_state.proofs.state.ReplicaState.asks_leader.Goals as goal
 
-pub returns-in-Resume : goal.returns-in-Resume
-returns-in-Resume c =
+pub returns-in-Resume-clause-asked : goal.returns-in-Resume-clause-asked
+returns-in-Resume-clause-asked c =
     subst (λ (said : ChainBody). asked_of (home_of c.args.self.now) (replica_of c.args.self.now) c.resumes.result ≡ asks_leader (home_of c.args.self.now) (replica_of c.args.self.now) c.args.from said (hint_in said) (read_in said))
-    (sym c.in-Resume.is) (c.resumes.ensures c.args.from)
+    (sym c.in-Resume.is) (c.resumes.ensures.asked c.args.from)
