@@ -1,0 +1,4 @@
+pub mod Values
+pub mod Comparisons
+pub mod Conditions
+pub mod Rows

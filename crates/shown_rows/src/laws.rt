@@ -1,0 +1,10 @@
+//! Laws of conditions.
+ghost use Rattle.std.specs.Prelude.{◌≡◌};
+ghost use Rattle.graph_model.specs.declared.found.Found.{Found};
+ghost use Rattle.schema_book.specs.Entries.{Entries};
+ghost use Rattle.shown_rows.specs.Conditions.{Condition, holds, is_so, steps_of};
+
+/// The steps of a condition leave what it says as a tree.
+pub fn conditions_mean_their_trees()
+    ensures { (edges : Entries) (found : Found) (condition : Condition) → holds edges found (steps_of condition) ≡ is_so edges found condition }
+{}
