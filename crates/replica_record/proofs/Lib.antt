@@ -1,0 +1,4 @@
+pub mod Own
+pub mod Kept
+pub mod OnDisk
+pub mod Steps
