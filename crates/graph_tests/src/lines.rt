@@ -3,8 +3,8 @@ ghost use Rattle.std.specs.Prelude.{◌≡◌, true, IfOk};
 ghost use Rattle.graph_model.specs.Edges.{are_edges, edges_among};
 
 use graph_model::{
-    Answer, CallId, EdgeId, EdgeRows, Edges, GStep, Graph, Misfit, Op, Query, Row, StepRefused,
-    Types, Val, Vid, View,
+    Answer, CallId, EdgeId, EdgeRows, Edges, Found, GStep, Graph, Misfit, Op, Query, Row,
+    StepRefused, Types, Val, Vid, View,
 };
 use lists::{Listed, NoMemory};
 use std::alloc::Global;
@@ -57,6 +57,8 @@ pub enum Said {
     Unknown,
     /// Nothing was found.
     Empty,
+    /// The edge from 1 to 2 was found by its in-half, with this row.
+    Entered(i64),
 }
 
 /// A step of a call, which is named by its number.
@@ -111,8 +113,8 @@ pub fn types(alloc: Global) -> Result<Types, NoMemory> {
     Types::from_slice(alloc, &[1])
 }
 
-fn answer(alloc: Global, said: Said) -> Answer {
-    match said {
+fn answer(alloc: Global, said: Said) -> Result<Answer, NoMemory> {
+    Ok(match said {
         Said::Fine => Answer::Fine,
         Said::Skipped => Answer::Skipped,
         Said::Pending => Answer::Pending,
@@ -120,7 +122,18 @@ fn answer(alloc: Global, said: Said) -> Answer {
         Said::Cancelled => Answer::Cancelled,
         Said::Unknown => Answer::Unknown,
         Said::Empty => Answer::Shown(View::new(alloc)),
-    }
+        Said::Entered(value) => Answer::Shown(entered(alloc, value)?),
+    })
+}
+
+fn entered(alloc: Global, value: i64) -> Result<View, NoMemory> {
+    let mut view = View::new(alloc);
+    view.push(Found {
+        edge: Some(FIRST),
+        inward: true,
+        row: row(alloc, value)?,
+    })?;
+    Ok(view)
 }
 
 fn step(alloc: Global, line: Line) -> Result<GStep, NoMemory> {
@@ -137,7 +150,7 @@ fn step(alloc: Global, line: Line) -> Result<GStep, NoMemory> {
         Line::Cancel(number) => GStep::Cancel(call(number)),
         Line::Vertex(number) => GStep::Vertex(call(number)),
         Line::Read(number, moment) => GStep::Read(call(number), moment),
-        Line::Reply(number, said) => GStep::Reply(call(number), answer(alloc, said)),
+        Line::Reply(number, said) => GStep::Reply(call(number), answer(alloc, said)?),
     })
 }
 

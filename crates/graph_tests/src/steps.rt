@@ -58,6 +58,16 @@ const RUN: &[(Line, Option<Misfit>)] = &[
     (Line::Invoke(9, Asked::Tag(9, true)), None),
     (Line::Vertex(9), None),
     (Line::Reply(9, Said::Fine), None),
+    // Call 10 asks, and call 11 removes the edge: call 10 is shown moment 34, when its in-half was still there.
+    (Line::Invoke(10, Asked::Enter), None),
+    (Line::Invoke(11, Asked::Cut), None),
+    (Line::Begin(11), None),
+    (Line::InHalf(11), None),
+    (Line::OutHalf(11), None),
+    (Line::Settle(11), None),
+    (Line::Read(10, 34), None),
+    (Line::Reply(10, Said::Empty), Some(Misfit::WrongAnswer)),
+    (Line::Reply(10, Said::Entered(5)), None),
 ];
 
 #[test]
