@@ -2,3 +2,4 @@ pub mod Values
 pub mod Comparisons
 pub mod Conditions
 pub mod Rows
+pub mod Worked

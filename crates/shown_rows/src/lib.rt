@@ -5,7 +5,8 @@
 //! of its walk found: each edge that WHERE keeps is a row, in the order in which they were found.
 //!
 //! **Claimed.** The rows are just those that the definitions `fetched_rows` and `walked_rows` say, but for want of memory. A
-//! condition means what it says as a tree ([`laws::conditions_mean_their_trees`]), whatever order of its steps a stack needs.
+//! condition means what it says as a tree ([`laws::conditions_mean_their_trees`]), whatever order of its steps a stack needs;
+//! what each relation says of each pair of kinds is worked by hand ([`laws::relations_by_hand`]).
 //!
 //! **To read, and believe**, in this order: `specs/Values` (what is looked at: its value, and null where there is none),
 //! `Comparisons` (which values meet a relation), `Conditions` (a condition as a tree, and over a stack of answers), `Rows`.
