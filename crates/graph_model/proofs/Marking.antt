@@ -56,6 +56,9 @@ le_vids a b h g = let after : is_gt (mark_cmp a b) ≡ true = ap (λ o. is_gt (o
 pub not_there : {X : Type 0} (es : List (Mark × X)) (q : Mark) → lookup (is_at (mark_cmp q)) es ≡ None → is_some (get (from_entries {R = mark_cmp} es) q) ≡ false
 not_there es q none = ap is_some (get_made mark_keys es q ∙ none)
 
+pub is_there : {X : Type 0} (es : List (Mark × X)) (q : Mark) (x : X) → lookup (is_at (mark_cmp q)) es ≡ Some x → is_some (get (from_entries {R = mark_cmp} es) q) ≡ true
+is_there es q x some = ap is_some (get_made mark_keys es q ∙ some)
+
 -- the marks of a vertex from a step on
 module _ {X : Type 0} (m : BTreeMap Mark X) (v : Vid) (from : ℕ) (first : Mark) (is : first ≡ record { vid = v; step = from }) (r : List (Mark × X)) (range : IsRangeOf mark_cmp (Included first) Unbounded m r) where
   in_range : (i : ℕ) → from ≤ i → IsLeBy mark_cmp first (record { vid = v; step = i })
@@ -88,6 +91,9 @@ module _ {X : Type 0} (m : BTreeMap Mark X) (v : Vid) (from : ℕ) (first : Mark
 
       same_vid : v ≡ k.vid
       same_vid = same_is vid_keys v k.vid here
+
+      pub found_there : tree.get mark_cmp m (record { vid = v; step = k.step }) ≡ Some x
+      found_there = subst (λ w. tree.get mark_cmp m (record { vid = w; step = k.step }) ≡ Some x) (sym same_vid) entry.1
 
       -- the first of them is the first step that is marked
       pub none_before : (i : ℕ) → from ≤ i → i < k.step → tree.get mark_cmp m (record { vid = v; step = i }) ≡ None

@@ -40,6 +40,7 @@ AreNone es v from to = (i : ℕ) → from ≤ i → i < to → has_mark es v i �
 pub record IsNext (es : List (Mark × ⊤)) (v : Vid) (from to step : ℕ) : Type 0 where
   pub from_on : from ≤ step
   pub below : step < to
+  pub marked : has_mark es v step ≡ true
   pub none : AreNone es v from step
 
 -- what was marked is marked

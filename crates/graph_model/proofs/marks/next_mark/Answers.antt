@@ -2,7 +2,7 @@ use Rattle.std.proofs.Common.{arith, sym, subst, ◌∙◌}
 use Rattle.std.specs.declared.ops.Bound.TheVariants.{Included, Unbounded}
 use Rattle.std.specs.BTreeMap.Range.{IsRangeOf}
 use Rattle.graph_model.proofs.Orders.{mark_order}
-use Rattle.graph_model.proofs.Marking.{none_found, other_found, found_from, none_before, not_there}
+use Rattle.graph_model.proofs.Marking.{none_found, other_found, found_from, found_there, none_before, is_there, not_there}
 use Rattle.graph_model.proofs.marks.next_mark.Goals as goal
 
 pub returns-in_default-clause-none : goal.returns-in_default-clause-none
@@ -27,5 +27,6 @@ returns-clause-next c =
     record {
       from_on = found_from c.args.marks.now c.args.v.now c.args.from c.of-first.result c.of-first.ensures c.range.result range c.in-Some.mark.now c.in-Some.field-0-1.now c.next.new.self c.in-Some.ensures.steps here;
       below = omega (arith, c.if-mark-to.false);
+      marked = is_there c.args.marks.now.entries _ _ (found_there c.args.marks.now c.args.v.now c.args.from c.of-first.result c.of-first.ensures c.range.result range c.in-Some.mark.now c.in-Some.field-0-1.now c.next.new.self c.in-Some.ensures.steps here);
       none = λ i h below. not_there c.args.marks.now.entries _ (none_before c.args.marks.now c.args.v.now c.args.from c.of-first.result c.of-first.ensures c.range.result range c.in-Some.mark.now c.in-Some.field-0-1.now c.next.new.self c.in-Some.ensures.steps here i h below);
     }
