@@ -1,0 +1,9 @@
+mod Held
+mod Fitting
+mod Parts
+mod Views
+mod Letters
+mod Rules
+mod Entries
+mod Asked
+mod Steps
