@@ -7,3 +7,5 @@ mod Rules
 mod Entries
 mod Asked
 mod Steps
+mod Read
+mod Hear

@@ -1,18 +1,21 @@
 -- What leaves in a step has a spelling, and so has all that the replica holds behind it.
-use Rattle.std.proofs.Common.{◌≡◌, ℕ, suc, List, ◌++◌, map, length, Option, None, Some, Bool, true, false, subst}
-use Rattle.std.specs.Prelude.{◌==◌, nat_lt, not, if◌then◌else◌}
+use Rattle.std.proofs.Common.{◌≡◌, ℕ, suc, List, ◌++◌, map, length, Option, None, Some, Bool, true, false, subst, [], ◌∷◌}
+use Rattle.std.specs.Prelude.{◌==◌, nat_lt, not, if◌then◌else◌, IfSome}
 use Rattle.std.specs.List.{AllByRecursion, filter}
 use Rattle.std.proofs.lemmas.Bool.{cond_both}
 use Rattle.std.proofs.lemmas.Option.{same_Some, none-some}
 use Rattle.raft_log.specs.declared.message.RaftMsg.{RaftMsg}
 use Rattle.raft_core.specs.declared.input.RaftInput.{RaftInput}
 use Rattle.raft_core.specs.declared.input.RaftInput.TheVariants.{Confirm}
-use Rattle.raft_core.specs.Core.{Core, is_leading}
+use Rattle.raft_core.specs.Core.{Core, opened as core_opened, is_leading}
 use Rattle.raft_core.specs.Laws.{IsPeer}
 use Rattle.raft_core.specs.Step.{stepped as raft_stepped}
-use Rattle.raft_log.specs.Config.{AreEntries}
+use Rattle.raft_log.specs.Config.{IsConfig, AreEntries}
+use Rattle.raft_log.specs.declared.config.Config.{Config}
+use Rattle.raft_log.specs.declared.entry.Item.TheVariants.{Members}
+use Rattle.raft_core.specs.Durable.{durable, reopened}
 use Rattle.raft_core.proofs.Lists.{all_both, all_of-filter, all_through-map}
-use Rattle.raft_core.proofs.StepLaws.{stays_peer}
+use Rattle.raft_core.proofs.StepLaws.{stays_peer, opened_is_peer}
 use Rattle.graph_bytes.specs.Fits.{IsSmall}
 use Rattle.maps.proofs.Keys.{nat_keys}
 use Rattle.part_keys.specs.declared.chain.ChainState.{ChainState}
@@ -23,7 +26,7 @@ use Rattle.replica_model.specs.declared.packet.Packet.{Packet}
 use Rattle.replica_model.specs.declared.input.Input.{Input}
 use Rattle.replica_model.specs.declared.input.Input.TheVariants as input
 use Rattle.replica_model.specs.declared.input.Tick.TheVariants as tick
-use Rattle.replica_model.specs.Replica.{Home, Row, Replica, no_senders, machine_of, fresh}
+use Rattle.replica_model.specs.Replica.{Home, Row, Replica, no_senders, machine_of, fresh, opened, created}
 use Rattle.replica_model.specs.Spelling.{values_of}
 use Rattle.replica_model.specs.Asks.{Asks, Nothing, Refuses, Points, Leads, Raft, Reads, asks}
 use Rattle.replica_model.specs.Letters.{packets_of}
@@ -54,6 +57,13 @@ no_senders_spelled index sender e = absurd (none-some sender e)
 -- a replica that has just come up
 pub fresh_spelled : (home : Home) (core : Core) → IsPeer core → AreEntries core.log → AreFitting home core.log → IsSpelled home (fresh core)
 fresh_spelled home core peer items fit = record { peer = peer; items = items; entries = fit; table = empty_spelled; senders = no_senders_spelled; rows = tt }
+
+pub created_spelled : (home : Home) (me : ℕ) (first : Option Config) → IfSome first IsConfig → IsSpelled home (created me first)
+created_spelled home me None is = fresh_spelled home (core_opened me 0 0 []) (opened_is_peer me 0 0 []) tt tt
+created_spelled home me (Some config) is = fresh_spelled home (core_opened me 0 0 (record { term = 0; item = Members config } ∷ [])) (opened_is_peer me 0 0 (record { term = 0; item = Members config } ∷ [])) (is, tt) (tt, tt)
+
+pub reopened_spelled : (home : Home) (r : Replica) (me : ℕ) → IsSpelled home r → IsSpelled home (opened me (durable r.core))
+reopened_spelled home r me is = fresh_spelled home (reopened me (durable r.core)) (opened_is_peer me r.core.term r.core.vote r.core.log) is.items is.entries
 
 led_by_spelled : (on : Bool) (lead : Leading) (policy : Policy) → IsSpelledTable lead.table → IsSpelledTable (led_by on lead policy).table
 led_by_spelled true lead policy is = is

@@ -6,12 +6,17 @@
 //! tells rows and edges that the part holds; and all ends are clients and parts from 1 to 64.
 //!
 //! What a replica has to hold for that is `IsSpelled` (`specs/Spelled`), and so of its part `IsSpelledPart` (`specs/Parts`): it holds
-//! of a replica that has just come up with a log whose entries fit, and each step keeps it. Of what comes it asks no more than that
-//! a packet has a spelling and that the entries of an Append fit, as those do whose payloads are bytes ([`bytes_fit`]).
+//! of a replica that has just come up with a log whose entries fit, so of one that is created and of one that comes up again
+//! ([`replicas_come_up_spelled`]), and each step keeps it. Of what comes it asks no more than that a packet has a spelling and that
+//! the entries of an Append fit, as those do whose payloads are bytes ([`bytes_fit`]), and so each packet that was read of bytes
+//! ([`read_packets_are_spelled`]).
 //!
-//! Below are `replica_model` and `packet_codec`; nothing stands above it yet.
+//! Below are `replica_model`, `replica_state` and `packet_codec`; nothing stands above it yet.
 #![tactic(auto)]
 
 mod laws;
 
-pub use laws::{bytes_fit, leaves_are_spelled, parts_are_spelled};
+pub use laws::{
+    bytes_fit, leaves_are_spelled, parts_are_spelled, read_packets_are_spelled,
+    replicas_come_up_spelled,
+};
