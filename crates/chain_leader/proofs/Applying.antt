@@ -5,16 +5,17 @@ use Rattle.std.specs.Option.{option_map}
 use Rattle.part_keys.specs.declared.chain.PrimeRec.{PrimeRec}
 use Rattle.part_keys.specs.declared.entry.PartEntry.{PartEntry}
 use Rattle.part_keys.specs.declared.proposal.Proposal.{Proposal}
-use Rattle.part_keys.specs.declared.proposal.Proposal.TheVariants.{Made}
+use Rattle.part_keys.specs.declared.proposal.Proposal.TheVariants.{Start, Made}
 use Rattle.part_rules.specs.declared.applied.Applied.{Applied}
 use Rattle.part_rules.specs.declared.applied.Applied.TheVariants.{Begun}
 use Rattle.part_rules.specs.Part.{Part}
 use Rattle.part_rules.specs.Machine.{applied}
+use Rattle.part_rules.specs.Folded.{item_applied}
 use Rattle.chain_leader.specs.declared.new_chain.NewChain.{NewChain}
 use Rattle.chain_leader.specs.Rules.{Table}
-use Rattle.chain_leader.specs.Leading.{Leading, Ruled, answers_of, chain_in, forgetting, quiet, begins, ruled_by, ruled, on_entry, on_item}
-use Rattle.chain_leader.specs.Leader.{BeganBehind, StandsBehind}
-use Rattle.chain_leader.specs.Applying.{IsBehind, IsSaid, by_ready, beginning_of, beginning_by, begun_with, entry_by}
+use Rattle.chain_leader.specs.Leading.{Leading, Ruled, answers_of, chain_in, forgetting, quiet, begins, ruled_by, ruled, started, on_entry, on_item}
+use Rattle.chain_leader.specs.Leader.{BeganBehind}
+use Rattle.chain_leader.specs.Applying.{IsSaid, by_ready, beginning_of, beginning_by, begun_with, chain_at, entry_by, row_begun, row_in, with_row}
 use Rattle.chain_leader.proofs.Sent.{begun_table, begun_sent}
 
 -- a chain that begins
@@ -42,22 +43,51 @@ pub entry_at : (term : ℕ) (l m : Leading) (own : Bool) (x : PartEntry) (behind
 entry_at term l m own x behind said made begun same prepared h =
     (λ i. entry_by (same i) own x said (prepared i) behind) ∙ entry_is term l own x (behind, said) begun h
 
--- An item that is an entry: what is known behind it, and what the leader makes of it
-pub record IsEntryItem (parts term index : ℕ) (machine : Part) (l : Leading) (of : ℕ) (item : Proposal) (x : PartEntry) (said : Applied) (begun : Option PrimeRec) (stands : Bool) : Type 0 where
-  pub began : BeganBehind (applied parts index x machine).0 said begun
-  pub ends : StandsBehind (applied parts index x machine).0 (chain_in x) stands
-  pub same : on_entry term l (of == term) x ((applied parts index x machine).0, said) ≡ on_item parts term machine l index (of, item)
-  pub answers : answers_of (of == term) x said ≡ (on_item parts term machine l index (of, item)).answers
+-- the row of a chain that begins
+row_put : (ready : Bool) (t : Table) (made : Option NewChain) → with_row t (row_in ready made) ≡ (begun_with ready t made).table
+row_put true t (Some made) = refl
+row_put true t None = refl
+row_put false t made = refl
 
-pub entry_item : (parts term index : ℕ) (machine : Part) (l : Leading) (of : ℕ) (item : Proposal) (x : PartEntry) (said : Applied) (begun : Option PrimeRec) (stands : Bool)
-    → item ≡ Made x → IsBehind parts index item machine said begun stands → IsEntryItem parts term index machine l of item x said begun stands
-entry_item parts term index machine l of item x said begun stands e =
-    subst (λ (y : Proposal). IsBehind parts index y machine said begun stands → IsEntryItem parts term index machine l of y x said begun stands) (sym e) (λ h. record {
-      began = h.began;
-      ends = h.ends;
-      same = ap (λ (s : Applied). on_entry term l (of == term) x ((applied parts index x machine).0, s)) h.answer;
-      answers = ap (answers_of (of == term) x) h.answer;
-    })
+-- what leaves for it, whatever the table
+sent_alike : (ready : Bool) (t u : Table) (made : Option NewChain) → (begun_with ready t made).letters ≡ (begun_with ready u made).letters
+sent_alike true t u (Some made) = refl
+sent_alike true t u None = refl
+sent_alike false t u made = refl
+
+-- An item that was looked at ahead: the leader behind it, and what it sends, by what it makes at a leader that is as ready.
+pub record IsAhead (parts term index : ℕ) (machine : Part) (l : Leading) (of : ℕ) (item : Proposal) (said : Applied) (begun : Option PrimeRec) : Type 0 where
+  pub leading : record l { ready = (on_item parts term machine (by_ready l.ready) index (of, item)).leading.ready; table = with_row (forgetting l.table (item_applied parts index item machine).0 (chain_at item)) (row_begun l.ready term item said begun) } ≡ (on_item parts term machine l index (of, item)).leading
+  pub answers : (on_item parts term machine (by_ready l.ready) index (of, item)).answers ≡ (on_item parts term machine l index (of, item)).answers
+  pub rules : (on_item parts term machine (by_ready l.ready) index (of, item)).rules ≡ (on_item parts term machine l index (of, item)).rules
+
+-- a no-op, the leader's own or another's
+start_ahead : (l : Leading) (own : Bool) → record l { ready = (started (by_ready l.ready) own).leading.ready } ≡ (started l own).leading
+start_ahead l true = refl
+start_ahead l false = refl
+
+start_answers : (l : Leading) (own : Bool) → (started (by_ready l.ready) own).answers ≡ (started l own).answers
+start_answers l true = refl
+start_answers l false = refl
+
+start_rules : (l : Leading) (own : Bool) → (started (by_ready l.ready) own).rules ≡ (started l own).rules
+start_rules l true = refl
+start_rules l false = refl
+
+pub is_ahead : (parts term index : ℕ) (machine : Part) (l : Leading) (of : ℕ) (item : Proposal) (said : Applied) (begun : Option PrimeRec) → IsSaid parts index item machine said begun → IsAhead parts term index machine l of item said begun
+is_ahead parts term index machine l of Start said begun h = record { leading = start_ahead l (of == term); answers = start_answers l (of == term); rules = start_rules l (of == term) }
+is_ahead parts term index machine l of (Made x) said begun h =
+    let behind = (applied parts index x machine).0 in
+    let t = forgetting l.table behind (chain_in x) in
+    let u = forgetting (by_ready l.ready).table behind (chain_in x) in
+    let made = beginning_by term said begun in
+    record {
+      leading = ap (λ (m : Table). record l { table = m }) (row_put l.ready t made ∙ ap (λ (r : Ruled). r.table) (sym (rule_by l.ready term t behind said begun h.began)) ∙ ap (λ (s : Applied). (ruled_by l.ready term t behind s).table) h.answer);
+      answers = refl;
+      rules = ap (λ (s : Applied). (ruled_by l.ready term u behind s).letters) (sym h.answer) ∙ ap (λ (r : Ruled). r.letters) (rule_by l.ready term u behind said begun h.began) ∙ sent_alike l.ready u t made
+          ∙ ap (λ (r : Ruled). r.letters) (sym (rule_by l.ready term t behind said begun h.began)) ∙ ap (λ (s : Applied). (ruled_by l.ready term t behind s).letters) h.answer;
+    }
+is_ahead parts term index machine l of other said begun h = record { leading = refl; answers = refl; rules = refl }
 
 -- what the rules send for an entry that is looked at ahead
 abbrev pub ahead : ℕ → ℕ → ℕ → Part → Bool → PartEntry → Table

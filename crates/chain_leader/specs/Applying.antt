@@ -56,6 +56,11 @@ abbrev pub told_by : Proposal → Applied → List Letter
 told_by (Made x) said = told (answer_of x said)
 told_by other said = []
 
+-- what goes back to the sender of an item, the leader's own or another's
+abbrev pub back_by : Bool → Proposal → Applied → List Letter
+back_by own (Made x) said = back_at own x said
+back_by own other said = []
+
 -- what a leader makes of an entry, by its answer, the chain that begins, and the part behind it
 abbrev pub entry_by : Leading → Bool → PartEntry → Applied → Option NewChain → Part → Applies
 entry_by l own x said made behind = record {

@@ -1,8 +1,8 @@
 //! What a leader makes of an item, before it applies it.
-ghost use Rattle.std.specs.Prelude.{◌≡◌, ◌++◌, ℕ, None, IfOk};
+ghost use Rattle.std.specs.Prelude.{◌≡◌, ◌==◌, ◌++◌, ℕ, None, IfOk};
 ghost use Rattle.std.specs.Option.{option_copied, option_to_list};
 ghost use Rattle.part_rules.specs.Part.{Part};
-ghost use Rattle.chain_leader.specs.Applying.{IsSaid, back_at, by_ready, beginning_by, begun_with, row_in, row_begun};
+ghost use Rattle.chain_leader.specs.Applying.{IsSaid, back_at, back_by, told_by, by_ready, beginning_by, begun_with, row_in, row_begun};
 ghost use Rattle.chain_leader.specs.Leading.{told, on_item, started};
 ghost use Rattle.chain_leader.specs.Calls.{answer_of};
 ghost use Rattle.chain_leader.specs.Rules.{Table};
@@ -115,6 +115,8 @@ pub fn item_ahead(
     begun: Option<&PrimeRec>,
 ) -> Result<ItemAhead, NoMemory>
     ensures answers { (parts index : ℕ) (machine : Part) → IsSaid parts index item.now machine said.now (option_copied begun.entry) → IfOk result (λ ahead. option_to_list ahead.sent.told ++ option_to_list ahead.sent.back ≡ (on_item parts term machine (by_ready ready) index (of, item.now)).answers) }
+    ensures told { IfOk result (λ ahead. option_to_list ahead.sent.told ≡ told_by item.now said.now) }
+    ensures back { IfOk result (λ ahead. option_to_list ahead.sent.back ≡ back_by (of == term) item.now said.now) }
     ensures rules { (parts index : ℕ) (machine : Part) → IsSaid parts index item.now machine said.now (option_copied begun.entry) → IfOk result (λ ahead. option_to_list ahead.sent.rule ≡ (on_item parts term machine (by_ready ready) index (of, item.now)).rules) }
     ensures ready { (parts index : ℕ) (machine : Part) → IsSaid parts index item.now machine said.now (option_copied begun.entry) → IfOk result (λ ahead. ahead.ready ≡ (on_item parts term machine (by_ready ready) index (of, item.now)).leading.ready) }
     ensures begins { IfOk result (λ ahead. ahead.begins ≡ row_begun ready term item.now said.now (option_copied begun.entry)) }

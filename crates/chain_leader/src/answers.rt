@@ -1,13 +1,14 @@
 //! What a client's call is answered.
 ghost use Rattle.std.specs.Prelude.{◌≡◌, [], if◌then◌else◌};
 ghost use Rattle.std.specs.Option.{option_to_list};
+ghost use Rattle.chain_leader.specs.Applying.{chain_at};
 ghost use Rattle.chain_leader.specs.Calls.{is_write, call_in, answer_of};
 ghost use Rattle.chain_leader.specs.Leading.{told, back_of, reply_to, chain_in};
 
 use crate::body::ChainBody;
 use crate::letter::Letter;
 use graph_model::{Answer, CallId};
-use part_keys::PartEntry;
+use part_keys::{PartEntry, Proposal};
 use part_rules::{Applied, Outcome};
 
 /// Whether the entry is a call's that writes.
@@ -43,6 +44,16 @@ pub fn chain_in(entry: &PartEntry) -> Option<u64>
         PartEntry::Abort(v) => Some(*v),
         _ => None,
     }
+}
+
+/// The chain that an item may end.
+pub fn chain_at(item: &Proposal) -> Option<u64>
+    ensures { result ≡ chain_at item.now }
+{
+    let Proposal::Made(entry) = item else {
+        return None;
+    };
+    chain_in(entry)
 }
 
 /// The answer to a client that an applied entry gives, and the call that is answered.

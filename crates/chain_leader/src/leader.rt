@@ -9,11 +9,11 @@ ghost use Rattle.graph_model.specs.declared.query.Query.{Query};
 ghost use Rattle.chain_leader.specs.Calls.{is_write};
 ghost use Rattle.chain_leader.specs.Leading.{read};
 
-use crate::answers::{back_where, chain_in, is_write, told};
+use crate::ahead::{ItemAhead, item_ahead};
+use crate::answers::{chain_at, is_write};
 use crate::body::ChainBody;
 use crate::item_letters::ItemLetters;
 use crate::letter::Letter;
-use crate::new_chain::{NewChain, beginning};
 use crate::resuming::{TakenUp, go_further, resumptions, rows_for, take_up_all};
 use crate::rules::{give_up, on_fence, on_remote};
 use crate::table::ChainTable;
@@ -32,16 +32,15 @@ pub struct Leader {
 }
 
 impl Leader {
-    ghost use Rattle.std.specs.Prelude.{◌≡◌, ◌≤◌, ◌<◌, ◌-◌, ℕ, Option, false, [], ◌++◌, map, length, OnOk, OnErr, IfOk, IfSome};
+    ghost use Rattle.std.specs.Prelude.{◌≡◌, ◌==◌, ◌≤◌, ◌<◌, ◌-◌, ℕ, Option, false, [], ◌++◌, map, length, OnOk, OnErr, IfOk, IfSome};
     ghost use Rattle.std.specs.Option.{option_copied, option_to_list};
     ghost use Rattle.part_keys.specs.declared.vid_kind.VidKind.{VidKind};
     ghost use Rattle.part_rules.specs.Part.{Part};
     ghost use Rattle.chain_leader.specs.declared.body.ChainBody.TheVariants as says;
-    ghost use Rattle.chain_leader.specs.Leading.{idle, given_up, pulsed, taken, told, chain_in, forgetting, started, on_entry, on_item};
-    ghost use Rattle.chain_leader.specs.Leader.{leads, is_resume, StandsBehind, BeganBehind};
+    ghost use Rattle.chain_leader.specs.Leading.{idle, given_up, pulsed, taken, forgetting, on_item};
+    ghost use Rattle.chain_leader.specs.Leader.{leads, is_resume, StandsBehind};
     ghost use Rattle.chain_leader.specs.Resuming.{AreStanding, row_for, all_taken_up, resumed_by};
-    ghost use Rattle.chain_leader.specs.Applying.{IsBehind, back_at, told_by, begun_with, entry_by, with_row};
-    ghost use Rattle.chain_leader.specs.Calls.{answer_of};
+    ghost use Rattle.chain_leader.specs.Applying.{IsBehind, back_by, told_by, with_row};
 
     /// A replica that doesn't lead.
     pub fn idle(alloc: Global) -> Self
@@ -107,51 +106,6 @@ impl Leader {
         on_fence(&mut self.table, v, written)
     }
 
-    /// A no-op is applied: where it is that of the leader's own term, the leader is ready, and sends itself a Resume.
-    pub fn started(&mut self, own: bool) -> Option<Letter>
-        ensures leading { leads self.new ≡ (started (leads self.old) own).leading }
-        ensures room { self.new.table.1 ≡ self.old.table.1 }
-        ensures rules { option_to_list result ≡ (started (leads self.old) own).rules }
-    {
-        if !own {
-            return None;
-        }
-        self.ready = true;
-        Some(Letter::Again(None))
-    }
-
-    /// The chain that begins is added where the leader is ready, and its letter leaves. It takes no memory.
-    fn begins(&mut self, made: Option<NewChain>) -> Option<Letter>
-        requires { IfSome made (λ _. 0 < self.old.table.1) }
-        ensures table { leads self.new ≡ record (leads self.old) { table = (begun_with self.old.ready self.old.table.0 made).table } }
-        ensures sent { option_to_list result ≡ (begun_with self.old.ready self.old.table.0 made).letters }
-        ensures room { self.old.table.1 - 1 ≤ self.new.table.1 }
-    {
-        let Some(NewChain { v, chain, letter }) = made else {
-            return None;
-        };
-        if !self.ready {
-            return None;
-        }
-        self.table.add(v, chain);
-        Some(letter)
-    }
-
-    /// The chain that an applied entry may end is forgotten, where its record is gone. Nothing else of the leader changes, and
-    /// no spare row is lost.
-    pub fn forgets(&mut self, entry: &PartEntry, stands: bool)
-        ensures leading { (behind : Part) → StandsBehind behind (chain_in entry.now) stands → leads self.new ≡ record (leads self.old) { table = forgetting self.old.table.0 behind (chain_in entry.now) } }
-        ensures room { self.old.table.1 ≤ self.new.table.1 }
-    {
-        let Some(v) = chain_in(entry) else {
-            return;
-        };
-        if stands {
-            return;
-        }
-        self.table.forget(v);
-    }
-
     /// An item that was looked at ahead is applied: the chain that it may end is forgotten, where its record is gone, and the row
     /// of the chain that begins is added. It takes no memory.
     pub fn goes_on(&mut self, ends: Option<u64>, stands: bool, begins: Option<(u64, ChainState)>)
@@ -166,31 +120,6 @@ impl Leader {
         }
         if let Some((v, chain)) = begins {
             self.table.add(v, chain);
-        }
-    }
-
-    /// What a leader makes of an entry that it applies, where the chain that begins is prepared: `stands` tells whether the chain
-    /// that the entry may end stands behind it. It takes no memory.
-    pub fn applied(
-        &mut self,
-        own: bool,
-        entry: &PartEntry,
-        said: &Applied,
-        made: Option<NewChain>,
-        stands: bool,
-    ) -> ItemLetters
-        requires { IfSome made (λ _. 0 < self.old.table.1) }
-        ensures leading { (behind : Part) → StandsBehind behind (chain_in entry.now) stands → leads self.new ≡ (entry_by (leads self.old) own entry.now said.now made behind).leading }
-        ensures told { option_to_list result.told ≡ told (answer_of entry.now said.now) }
-        ensures back { option_to_list result.back ≡ back_at own entry.now said.now }
-        ensures rules { (behind : Part) → StandsBehind behind (chain_in entry.now) stands → option_to_list result.rule ≡ (entry_by (leads self.old) own entry.now said.now made behind).rules }
-        ensures room { self.old.table.1 - 1 ≤ self.new.table.1 }
-    {
-        self.forgets(entry, stands);
-        ItemLetters {
-            told: told(entry, said),
-            back: back_where(own, entry, said),
-            rule: self.begins(made),
         }
     }
 
@@ -210,42 +139,19 @@ impl Leader {
         ensures leading { (parts index : ℕ) (machine : Part) → IsBehind parts index item.now machine said.now (option_copied begun.entry) stands → OnOk result (leads self.new ≡ (on_item parts term machine (leads self.old) index (of, item.now)).leading) }
         ensures answers { (parts index : ℕ) (machine : Part) → IsBehind parts index item.now machine said.now (option_copied begun.entry) stands → IfOk result (λ sent. option_to_list sent.told ++ option_to_list sent.back ≡ (on_item parts term machine (leads self.old) index (of, item.now)).answers) }
         ensures told { IfOk result (λ sent. option_to_list sent.told ≡ told_by item.now said.now) }
+        ensures back { IfOk result (λ sent. option_to_list sent.back ≡ back_by (of == term) item.now said.now) }
         ensures rules { (parts index : ℕ) (machine : Part) → IsBehind parts index item.now machine said.now (option_copied begun.entry) stands → IfOk result (λ sent. option_to_list sent.rule ≡ (on_item parts term machine (leads self.old) index (of, item.now)).rules) }
         ensures err { OnErr result (leads self.new ≡ leads self.old) }
         ensures room { self.old.table.1 - 1 ≤ self.new.table.1 }
     {
-        match item {
-            Proposal::Start => Ok(ItemLetters::of_rule(self.started(of == term))),
-            Proposal::Members(_) => Ok(ItemLetters::nothing()),
-            Proposal::Made(entry) => {
-                let sent = self.on_entry(alloc, term, of == term, entry, said, begun, stands)?;
-                Ok(sent)
-            }
-            Proposal::Blank => Ok(ItemLetters::nothing()),
-        }
-    }
-
-    /// What a leader of that term makes of an entry, one of its own term or another.
-    fn on_entry(
-        &mut self,
-        alloc: Global,
-        term: u64,
-        own: bool,
-        entry: &PartEntry,
-        said: &Applied,
-        begun: Option<&PrimeRec>,
-        stands: bool,
-    ) -> Result<ItemLetters, NoMemory>
-        ensures leading { (behind : Part) → BeganBehind behind said.now (option_copied begun.entry) → StandsBehind behind (chain_in entry.now) stands → OnOk result (leads self.new ≡ (on_entry term (leads self.old) own entry.now (behind, said.now)).leading) }
-        ensures told { IfOk result (λ sent. option_to_list sent.told ≡ told (answer_of entry.now said.now)) }
-        ensures back { IfOk result (λ sent. option_to_list sent.back ≡ back_at own entry.now said.now) }
-        ensures rules { (behind : Part) → BeganBehind behind said.now (option_copied begun.entry) → StandsBehind behind (chain_in entry.now) stands → IfOk result (λ sent. option_to_list sent.rule ≡ (on_entry term (leads self.old) own entry.now (behind, said.now)).rules) }
-        ensures err { OnErr result (leads self.new ≡ leads self.old) }
-        ensures room { self.old.table.1 - 1 ≤ self.new.table.1 }
-    {
-        let made = beginning(alloc, term, said, begun)?;
+        let ItemAhead {
+            sent,
+            begins,
+            ready,
+        } = item_ahead(alloc, self.ready, term, of, item, said, begun)?;
         self.table.reserve(1)?;
-        let sent = self.applied(own, entry, said, made, stands);
+        self.ready = ready;
+        self.goes_on(chain_at(item), stands, begins);
         Ok(sent)
     }
 

@@ -36,7 +36,7 @@ mod rules;
 mod table;
 
 pub use ahead::{ItemAhead, item_ahead};
-pub use answers::{answer_of, back_of, call_in, chain_in, is_write, told};
+pub use answers::{answer_of, back_of, call_in, chain_at, chain_in, is_write, told};
 pub use body::{About, ChainBody};
 pub use calls::{entry_of, part_of_op, removal};
 pub use item_letters::ItemLetters;
@@ -45,7 +45,5 @@ pub use leader::{Leader, read};
 pub use letter::Letter;
 pub use new_chain::{NewChain, beginning};
 pub use resuming::TakenUp;
-pub use rules::{
-    give_up, mark, on_fence, on_primed, on_primed_with, on_remote, resume, resume_with,
-};
-pub use table::{ChainTable, Route};
+pub use rules::{give_up, mark, on_fence, on_primed, on_remote, resume};
+pub use table::ChainTable;

@@ -1,6 +1,6 @@
 //! What a leader does with the chains that start in its part.
 ghost use Rattle.std.specs.Prelude.{◌≡◌, ◌≤◌, ◌<◌, ◌-◌, OnOk, OnErr, IfOk};
-ghost use Rattle.chain_leader.specs.Rules.{added, message, mode_by, mode_for, on_primed, on_remote, give_up, resume, on_fence};
+ghost use Rattle.chain_leader.specs.Rules.{added, message, mode_for, on_primed, on_remote, give_up, resume, on_fence};
 ghost use Rattle.part_rules.specs.Machine.{mark};
 
 use crate::table::ChainTable;
@@ -18,18 +18,8 @@ pub fn on_primed(alloc: Global, t: &mut ChainTable, rec: &PrimeRec) -> Result<Ch
 {
     let list = rec.list.copy(alloc)?;
     t.reserve(1)?;
-    Ok(on_primed_with(t, rec, list))
-}
-
-/// The same where a row is spare, and the list is handed in. It takes no memory.
-pub fn on_primed_with(t: &mut ChainTable, rec: &PrimeRec, list: EdgeHalves) -> ChainMsg
-    requires { (0 < t.old.1) × (list ≡ rec.now.list) }
-    ensures table { t.new.0 ≡ (on_primed t.old.0 rec.now).0 }
-    ensures sent { result ≡ (on_primed t.old.0 rec.now).1 }
-    ensures room { t.old.1 - 1 ≤ t.new.1 }
-{
     t.add(rec.v, added(rec, list, Mode::Put));
-    ChainMsg::Remote(rec.v)
+    Ok(ChainMsg::Remote(rec.v))
 }
 
 /// The in-halves of a chain are written: the entry that ends it is asked for once.
@@ -82,28 +72,13 @@ pub fn resume(
     let Some(chain) = t.get(rec.v) else {
         let list = rec.list.copy(alloc)?;
         t.reserve(1)?;
-        return Ok(resume_with(t, rec, policy, list));
+        let mode = mode_for(rec, policy);
+        t.add(rec.v, added(rec, list, mode));
+        return Ok(message(mode, rec.v));
     };
     let mode = chain.mode;
     t.retry(rec.v);
     Ok(message(mode, rec.v))
-}
-
-/// The same where a row is spare, and the list is handed in. It takes no memory.
-pub fn resume_with(t: &mut ChainTable, rec: &PrimeRec, policy: Policy, list: EdgeHalves) -> ChainMsg
-    requires { (0 < t.old.1) × (list ≡ rec.now.list) }
-    ensures table { t.new.0 ≡ (resume t.old.0 rec.now policy).0 }
-    ensures sent { result ≡ (resume t.old.0 rec.now policy).1 }
-    ensures room { t.old.1 - 1 ≤ t.new.1 }
-{
-    let Some(chain) = t.get(rec.v) else {
-        let mode = mode_for(rec, policy);
-        t.add(rec.v, added(rec, list, mode));
-        return message(mode, rec.v);
-    };
-    let mode = chain.mode;
-    t.retry(rec.v);
-    message(mode, rec.v)
 }
 
 /// It is known whether a chain wrote its in-halves: the entry that ends it is asked for once.
