@@ -1,0 +1,9 @@
+pub mod Day
+pub mod Duties
+pub mod Faults
+pub mod Laws
+pub mod Opening
+pub mod Rounds
+pub mod Script
+pub mod Way
+pub mod Worked
