@@ -68,8 +68,8 @@ fn back_to(by: Writer, sender: Option<Place>, said: ChainBody) -> Option<Packet>
     Some(packet_of(by, to_place(place), said))
 }
 
-/// The chain that a leader writes about, by a Remote or a Fence.
-fn chain_of(said: &ChainBody) -> u64
+/// The chain that a leader writes about, by a Remote or a Fence; 0 where it writes about none.
+pub fn chain_of(said: &ChainBody) -> u64
     ensures { result ≡ letters.chain_of said.now }
 {
     match said {

@@ -67,3 +67,12 @@ pub fn last_behind(core: &RaftCore, behind: &NextPeer) -> u64
     let _last = core.log().len();
     behind.keep + behind.entries.len() as u64
 }
+
+/// Whether the reads that wait stand behind a step that was made ahead: the peer leads the same term on, under the same
+/// configuration.
+pub fn keeps_rows(core: &RaftCore, behind: &NextPeer) -> bool
+    requires { behind.now.keep ≤ length (core_of core.now).log }
+    ensures { result ≡ steps.keeps_rows (core_of core.now) (core_next (core_of core.now).log behind.now) }
+{
+    leads_on(core, behind) && core.config_index(behind) == core.log().config().index
+}
