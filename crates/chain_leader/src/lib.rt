@@ -46,4 +46,4 @@ pub use letter::Letter;
 pub use new_chain::{NewChain, beginning};
 pub use resuming::TakenUp;
 pub use rules::{give_up, mark, on_fence, on_primed, on_remote, resume};
-pub use table::ChainTable;
+pub use table::{ChainTable, Route};

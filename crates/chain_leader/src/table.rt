@@ -10,6 +10,13 @@ use part_keys::{ChainState, Mode};
 use std::alloc::Global;
 use std::marker::Model;
 
+/// Which peer of a part a chain's next letter goes to: the hint, or where it is 0 the one of that try.
+#[derive(Clone, Copy)]
+pub struct Route {
+    pub tries: u32,
+    pub hint: u32,
+}
+
 /// The chains that a leader knows, by number, and how many more can be added without taking memory.
 #[derive(Drop)]
 pub struct ChainTable {
@@ -35,12 +42,12 @@ impl Model for ChainTable {
 }
 
 impl ChainTable {
-    ghost use Rattle.std.specs.Prelude.{◌≡◌, ◌≤◌, ◌<◌, ◌-◌, OnOk};
+    ghost use Rattle.std.specs.Prelude.{◌≡◌, ◌≤◌, ◌<◌, ◌-◌, OnOk, OnErr};
     ghost use Rattle.std.specs.Option.{option_copied, option_map};
     ghost use Rattle.std.specs.FinMap as map;
     ghost use Rattle.maps.specs.Maps.{altered};
     ghost use Rattle.chain_leader.specs.Rules.{first_to_double};
-    ghost use Rattle.chain_leader.specs.Table.{with_asked, with_double, with_try};
+    ghost use Rattle.chain_leader.specs.Table.{with_hint, with_asked, with_double, with_try, route_of};
     ghost use Rattle.chain_leader.specs.Resuming.{taken_up};
 
     /// No chain.
@@ -127,6 +134,34 @@ impl ChainTable {
         ensures room { self.old.1 ≤ self.new.1 }
     {
         self.rows.clear();
+    }
+
+    /// Sets the peer to send to next.
+    pub fn told(&mut self, v: u64, hint: u32)
+        ensures table { self.new.0 ≡ altered self.old.0 v (with_hint hint) }
+        ensures room { self.new.1 ≡ self.old.1 }
+    {
+        let Ok(at) = place(self.rows.as_slice(), v) else {
+            return;
+        };
+        self.rows[at].1.hint = hint;
+    }
+
+    /// Where the next letter of a chain goes. The hint is used up.
+    pub fn route(&mut self, v: u64) -> Option<Route>
+        ensures route { result ≡ option_map route_of (map.get self.old.0 v) }
+        ensures table { self.new.0 ≡ altered self.old.0 v (with_hint 0) }
+        ensures room { self.new.1 ≡ self.old.1 }
+    {
+        let Some(chain) = self.get(v) else {
+            return None;
+        };
+        let route = Route {
+            tries: chain.tries,
+            hint: chain.hint,
+        };
+        self.told(v, 0);
+        Some(route)
     }
 
     /// The entry that ends a chain is asked for.
