@@ -5,5 +5,8 @@ pub mod Naming
 pub mod Rows
 pub mod Settling
 pub mod Showing
+pub mod Noting
+pub mod KeptLaws
 pub mod Hearing
+pub mod Tallies
 pub mod Telling

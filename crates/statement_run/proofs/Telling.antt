@@ -1,5 +1,5 @@
 -- A statement behind one more answer.
-use Rattle.std.proofs.Common.{◌≡◌, ℕ, List, [], ◌∷◌, ◌++◌, length, ◌+◌, drop, nat_eq, nat_lt, Option, Some, None, Bool, true, false, cond, ◌||◌, refl, ap, sym, subst, ◌∙◌, length-append}
+use Rattle.std.proofs.Common.{◌≡◌, ℕ, List, [], ◌∷◌, ◌++◌, length, drop, nat_eq, nat_lt, Option, Some, None, Bool, true, false, cond, ◌||◌, refl, ap, sym, subst, ◌∙◌}
 use Rattle.std.proofs.lemmas.Bool.{cond-false}
 use Rattle.std.specs.Option.{option_map}
 use Rattle.std.specs.Prelude.{Result, Ok, Err, OnOk, IfOk}
@@ -13,6 +13,7 @@ use Rattle.graph_model.specs.declared.op.Op.{Op}
 use Rattle.graph_model.specs.declared.op.Op.TheVariants.{Read}
 use Rattle.schema_book.specs.declared.bound.Bound.{Bound}
 use Rattle.schema_book.specs.declared.bound.Bound.TheVariants.{Calls, Fetch, Go}
+use Rattle.schema_book.specs.declared.bound.FetchPlan.{FetchPlan}
 use Rattle.schema_book.specs.declared.bound.GoPlan.{GoPlan}
 use Rattle.traversal.specs.declared.walk.Walk.{Walk}
 use Rattle.traversal.specs.Trail as trail
@@ -56,16 +57,21 @@ views_more [] view = refl
 views_more (Shown v ∷ answers) view = ap (λ vs. v ∷ vs) (views_more answers view)
 views_more (x ∷ answers) view = views_more answers view
 
+-- its views are one more
+pub fetched_more : (bound : Bound) (plan : FetchPlan) (views more : List (List Found)) (walk : Option Walk) (answers : List Answer) (answer : Answer) (view : List Found)
+    → bound ≡ Fetch plan → answer ≡ Shown view → more ≡ views ++ view ∷ [] → IsAt bound views walk answers → IsAt bound more walk (answers ++ answer ∷ [])
+fetched_more bound plan views more walk answers answer view is said pushed at =
+    subst (λ b. IsAt b more walk (answers ++ answer ∷ [])) (sym is)
+    (pushed ∙ ap (λ vs. vs ++ view ∷ []) (subst (λ b. IsAt b views walk answers) is at)
+    ∙ sym (ap (λ a. filter_map view_of (answers ++ a ∷ [])) said ∙ views_more answers view))
+
 -- its walk is fed what was found
 pub walk_more : (plan : GoPlan) (answers : List Answer) (view : List Found) → walk_behind plan (answers ++ Shown view ∷ []) ≡ trail.fed (walk_behind plan answers) view
 walk_more plan answers view =
     ap (fed_all (trail.starting plan.steps plan.start plan.types plan.way)) (views_more answers view)
     ∙ fed_more (trail.starting plan.steps plan.start plan.types plan.way) (filter_map view_of answers) view
 
--- behind an answer that ends it, it is one answer farther, and its walk stands where it stood
-one_more : (answers : List Answer) (answer : Answer) → length (answers ++ answer ∷ []) ≡ length answers + 1
-one_more answers answer = length-append answers (answer ∷ [])
-
+-- behind an answer that ends it, its views and its walk stand where they stood
 views_same : (answers : List Answer) (answer : Answer) → view_of answer ≡ None → filter_map view_of (answers ++ answer ∷ []) ≡ filter_map view_of answers
 views_same [] answer none = rw (none) refl
 views_same (Shown v ∷ answers) answer none = ap (λ vs. v ∷ vs) (views_same answers answer none)
@@ -75,11 +81,11 @@ no_view : (answer : Answer) → is_last answer ≡ true → view_of answer ≡ N
 no_view (Shown view) is = absurd (let d : false ≡ true = is in cc)
 no_view other is = refl
 
-pub at_its_end : (bound : Bound) (made : ℕ) (walk : Option Walk) (answers : List Answer) (answer : Answer) → is_last answer ≡ true
-    → IsAt bound made walk answers → IsAt bound (made + 1) walk (answers ++ answer ∷ [])
-at_its_end (Calls ops) made walk answers answer is at = ap (λ n. n + 1) at ∙ sym (one_more answers answer)
-at_its_end (Fetch plan) made walk answers answer is at = ap (λ n. n + 1) at ∙ sym (one_more answers answer)
-at_its_end (Go plan) made walk answers answer is at =
+pub at_its_end : (bound : Bound) (views : List (List Found)) (walk : Option Walk) (answers : List Answer) (answer : Answer) → is_last answer ≡ true
+    → IsAt bound views walk answers → IsAt bound views walk (answers ++ answer ∷ [])
+at_its_end (Calls ops) views walk answers answer is at = tt
+at_its_end (Fetch plan) views walk answers answer is at = at ∙ sym (views_same answers answer (no_view answer is))
+at_its_end (Go plan) views walk answers answer is at =
     at ∙ sym (ap (λ vs. Some (fed_all (trail.starting plan.steps plan.start plan.types plan.way) vs)) (views_same answers answer (no_view answer is)))
 
 -- a walk keeps its way and its types
@@ -114,7 +120,7 @@ all_same w (view ∷ views) = let later = all_same (trail.fed w view) views in l
 -- a statement that walks
 module _ (t : Task) (r : Running) (tells : Tells t r) (plan : GoPlan) (walk : Walk) (bound : t.bound ≡ Go plan) (its : t.walk ≡ Some walk) where
   pub walk_at : walk ≡ walk_behind plan r.answers
-  walk_at = same_Some walk (walk_behind plan r.answers) (sym its ∙ subst (λ b. IsAt b t.made t.walk r.answers) bound tells.at)
+  walk_at = same_Some walk (walk_behind plan r.answers) (sym its ∙ subst (λ b. IsAt b t.views t.walk r.answers) bound tells.at)
 
   pub way_kept : walk.way ≡ plan.way
   way_kept = ap (λ (w : Walk). w.way) walk_at ∙ (all_same (trail.starting plan.steps plan.start plan.types plan.way) (filter_map view_of r.answers)).0

@@ -7,6 +7,9 @@ pub mod Settled
 pub mod Named
 pub mod At
 pub mod Made
+pub mod Ending
+pub mod Tally
+pub mod Kept
 pub mod Call
 pub mod Task
 pub mod Waiting

@@ -2,7 +2,9 @@
 use crate::call::{Begun, OpenCall};
 use crate::copies::copy_answer;
 use crate::effects::{ClientEffects, Said};
+use crate::ending::Ending;
 use crate::first::first_of;
+use crate::lines::Lines;
 use crate::task::Task;
 use crate::waiting::Waiting;
 use chain_leader::{About, ChainBody};
@@ -28,48 +30,65 @@ pub struct Client {
     pub(crate) number: u32,
     pub(crate) last: u64,
     pub(crate) busy: Option<Busy>,
+    pub(crate) lines: Lines,
 }
 
 impl Busy {
-    ghost use Rattle.std.specs.Prelude.{◌≡◌, ◌++◌, ◌∷◌, [], OnOk, OnErr};
+    ghost use Rattle.std.specs.FinMap.{insert};
+    ghost use Rattle.std.specs.Prelude.{◌≡◌, ◌++◌, ◌∷◌, [], None, OnOk, OnErr};
 
-    /// A statement stands behind the others. Refused for want of memory alone, and then all is as it was.
-    fn queue(&mut self, waiting: Waiting) -> Result<(), NoMemory>
+    /// A statement stands behind the others, with a place for its line. Refused for want of memory alone, and then all is as it was.
+    fn queue(&mut self, lines: &mut Lines, waiting: Waiting) -> Result<(), NoMemory>
+        ensures held { OnOk result (lines.new ≡ insert lines.old waiting.task.line None) }
+        ensures lines { OnErr result (lines.new ≡ lines.old) }
         ensures ok { OnOk result (self.new.waiting.items ≡ self.old.waiting.items ++ waiting ∷ []) }
         ensures call { self.new.call ≡ self.old.call }
         ensures task { self.new.task ≡ self.old.task }
         ensures err { OnErr result (self.new.waiting.items ≡ self.old.waiting.items) }
     {
-        self.waiting.push_back(waiting)?;
+        self.waiting.reserve(1)?;
+        lines.hold(waiting.task.line)?;
+        self.waiting.push_back_reserved(waiting);
         Ok(())
     }
 }
 
 impl Client {
-    ghost use Rattle.std.specs.Prelude.{◌≡◌, ◌<◌, ◌≤◌, ℕ, suc, true, None, Some, OnOk, OnErr, IfOk};
+    ghost use Rattle.std.specs.Prelude.{◌≡◌, ◌<◌, ◌≤◌, ◌+◌, ◌++◌, ◌∷◌, [], ℕ, suc, true, None, Some, OnOk, OnErr, IfOk, IsOk};
     ghost use Rattle.std.specs.List.{AllByRecursion};
-    ghost use Rattle.std.specs.Option.{option_map};
+    ghost use Rattle.std.specs.Option.{option_map, option_copied};
     ghost use Rattle.graph_model.specs.declared.answer.Answer.TheVariants.{Unknown};
     ghost use Rattle.statement_run.specs.Bound.{statement_of};
-    ghost use Rattle.statement_run.specs.Statement.{Statement, starting};
+    ghost use Rattle.statement_run.specs.Statement.{Statement, starting, unended, told as told_all};
     ghost use Rattle.statement_run.specs.Task.{fresh};
     ghost use Rattle.statement_run.specs.Caller.{Caller, Open, nobody, queued, rounded, fits, replied};
     ghost use Rattle.statement_run.specs.Settled.{settled, invokes, requests, ended, went, due_by, reply_by, invokes_by, requests_by, due_of, answered_by, hinted_by, reply_to, repeats};
     ghost use Rattle.statement_run.specs.Made.{IsMade, said_of};
-    ghost use Rattle.statement_run.specs.Waiting.{Waits};
+    ghost use Rattle.statement_run.specs.Waiting.{Waits, fresh_all};
     ghost use Rattle.statement_run.specs.Client.{Shows, IsFree};
+    ghost use Rattle.statement_run.specs.Kept.{nothing_kept, held, noted, noted_in, noted_by, ended_at, line_of, lines_waiting, kept_by};
     ghost use Rattle.statement_run.specs.declared.client.Busy.{Busy};
 
     /// A client of a number, without a statement. It takes no memory until a statement is queued.
-    pub fn new(number: u32) -> Client
-        ensures shows { Shows result nobody }
-        ensures number { result.number ≡ number }
+    pub fn new(alloc: Global, number: u32) -> Result<Client, NoMemory>
+        ensures made { IsOk result }
+        ensures shows { IfOk result (λ client. Shows client nobody) }
+        ensures kept { IfOk result (λ client. kept_by client ≡ nothing_kept) }
+        ensures number { IfOk result (λ client. client.number ≡ number) }
     {
-        Client {
+        Ok(Client {
             number,
             last: 0,
             busy: None,
-        }
+            lines: Lines::new(alloc),
+        })
+    }
+
+    /// How the statement of a line ended; none where it hasn't ended.
+    pub fn answer(&self, line: u64) -> Option<&Ending>
+        ensures { option_copied result ≡ ended_at line (kept_by self.now) }
+    {
+        self.lines.answer(line)
     }
 
     /// A statement of a line, its calls routed by so many parts, stands behind the others; where no call is open, its first one
@@ -85,6 +104,9 @@ impl Client {
         requires parts { (0 < parts) × (parts ≤ 64) }
         ensures shows { (c : Caller) → Shows self.old c → OnOk result (Shows self.new (settled self.old.number (queued c (statement_of parts bound)))) }
         ensures made { (c : Caller) → Shows self.old c → (let then = queued c (statement_of parts bound) in IfOk result (IsMade None (invokes self.old.number then) (requests self.old.number then))) }
+        ensures kept { (c : Caller) → Shows self.old c
+            → OnOk result (kept_by self.new ≡ noted (unended c.queue ++ starting (statement_of parts bound) ∷ []) (held (record { number = line; bound = bound }) (kept_by self.old))) }
+        ensures unkept { OnErr result (kept_by self.new ≡ kept_by self.old) }
         ensures number { self.new.number ≡ self.old.number }
         ensures err { (c : Caller) → Shows self.old c → OnErr result (Shows self.new c) }
     {
@@ -92,7 +114,7 @@ impl Client {
         let Some(mut busy) = replace(&mut self.busy, None) else {
             return self.start(alloc, waiting);
         };
-        let queued = busy.queue(waiting);
+        let queued = busy.queue(&mut self.lines, waiting);
         self.busy = Some(busy);
         queued?;
         Ok(ClientEffects::none())
@@ -106,14 +128,17 @@ impl Client {
         ensures shows { (c : Caller) (statement : Statement) → Shows self.old c → fresh waiting.task ≡ starting statement → OnOk result (Shows self.new (settled self.old.number (queued c statement))) }
         ensures made { (c : Caller) (statement : Statement) → Shows self.old c → fresh waiting.task ≡ starting statement
             → IfOk result (IsMade None (invokes self.old.number (queued c statement)) (requests self.old.number (queued c statement))) }
+        ensures kept { OnOk result (kept_by self.new ≡ noted (fresh waiting.task ∷ []) (held (line_of waiting.task) (kept_by self.old))) }
         ensures number { self.new.number ≡ self.old.number }
         ensures err { OnErr result (self.new ≡ self.old) }
     {
         let Some(last) = self.last.checked_add(1) else {
             return Err(NoMemory);
         };
+        let line = waiting.task.line;
         let mut queue = VecDeque::new(alloc);
         queue.push_back(waiting)?;
+        self.lines.hold(line)?;
         Ok(self.begin(queue, last, None))
     }
 
@@ -123,6 +148,7 @@ impl Client {
         requires waits { AllByRecursion Waits waiting.items }
         requires last { last ≡ suc self.old.last }
         ensures shows { (c : Caller) → IsFree waiting.items self.old.last c → Shows self.new (settled self.old.number c) }
+        ensures kept { kept_by self.new ≡ noted_in (lines_waiting waiting.items) (fresh_all waiting.items) self.old.lines }
         ensures made { (c : Caller) → IsFree waiting.items self.old.last c → IsMade (option_map said_of reply) (invokes self.old.number c) (requests self.old.number c) result }
         ensures number { self.new.number ≡ self.old.number }
     {
@@ -131,7 +157,7 @@ impl Client {
             client: self.number,
             number: last,
         };
-        match first_of(&mut waiting, id) {
+        match first_of(&mut waiting, &mut self.lines, id) {
             Some((task, begun)) => {
                 let Begun {
                     call,
@@ -169,6 +195,7 @@ impl Client {
         ensures shows { (c : Caller) (k : ℕ) → Shows self.old c → OnOk result (Shows self.new (went self.old.number c packet.now k)) }
         ensures made { (c : Caller) (k : ℕ) → Shows self.old c → (let due = due_by c packet.now k in
             IfOk result (IsMade (reply_by c due) (invokes_by self.old.number c due) (requests_by self.old.number c due))) }
+        ensures kept { (c : Caller) (k : ℕ) → Shows self.old c → OnOk result (kept_by self.new ≡ noted_by c.queue (due_by c packet.now k) (kept_by self.old)) }
         ensures number { self.new.number ≡ self.old.number }
         ensures err { OnErr result (self.new ≡ self.old) }
     {
@@ -196,6 +223,7 @@ impl Client {
         ensures shows { (c : Caller) → Shows self.old c → OnOk result (Shows self.new (answered_by self.old.number c (due_of c.call number answer.now))) }
         ensures made { (c : Caller) → Shows self.old c → (let due = due_of c.call number answer.now in
             IfOk result (IsMade (reply_by c due) (invokes_by self.old.number c due) (requests_by self.old.number c due))) }
+        ensures kept { (c : Caller) → Shows self.old c → OnOk result (kept_by self.new ≡ noted_by c.queue (due_of c.call number answer.now) (kept_by self.old)) }
         ensures number { self.new.number ≡ self.old.number }
         ensures err { OnErr result (self.new ≡ self.old) }
     {
@@ -231,6 +259,7 @@ impl Client {
         ensures shows { (c : Caller) → Shows self.old c → OnOk result (Shows self.new (ended self.old.number c told)) }
         ensures made { (c : Caller) → Shows self.old c
             → IfOk result (IsMade (Some (said_of said)) (invokes self.old.number (replied c told)) (requests self.old.number (replied c told))) }
+        ensures kept { (c : Caller) → Shows self.old c → OnOk result (kept_by self.new ≡ noted (told_all told c.queue) (kept_by self.old)) }
         ensures number { self.new.number ≡ self.old.number }
         ensures err { OnErr result (self.new ≡ self.old) }
     {
@@ -257,7 +286,11 @@ impl Client {
                     packet: Some(packet),
                 })
             }
-            Ok(None) => Ok(self.begin(busy.waiting, last, Some(said))),
+            Ok(None) => {
+                let Busy { task, waiting, .. } = busy;
+                self.lines.fill(task.line, task.ended());
+                Ok(self.begin(waiting, last, Some(said)))
+            }
             Err(NoMemory) => {
                 self.busy = Some(busy);
                 Err(NoMemory)
@@ -265,25 +298,36 @@ impl Client {
         }
     }
 
-    /// The statement whose call was open is over: the first call of those that wait begins, under this number.
-    fn next_statement(&mut self, last: u64, said: Said) -> ClientEffects
-        requires busy { (b : Busy) × (self.old.busy ≡ Some b) × AllByRecursion Waits b.waiting.items }
+    /// The statement whose call was open ends by Unknown, its last answer of so many: the first call of those that wait begins, under
+    /// this number.
+    fn next_statement(&mut self, last: u64, calls: u32, said: Said) -> ClientEffects
+        requires sound { (c : Caller) × Shows self.old c }
+        requires busy { (b : Busy) × (self.old.busy ≡ Some b) × (calls ≡ b.task.tally.calls + 1) }
         requires last { last ≡ suc self.old.last }
-        ensures shows { (b : Busy) (c : Caller) → self.old.busy ≡ Some b → IsFree b.waiting.items self.old.last c → Shows self.new (settled self.old.number c) }
-        ensures made { (b : Busy) (c : Caller) → self.old.busy ≡ Some b → IsFree b.waiting.items self.old.last c
-            → IsMade (Some (said_of said)) (invokes self.old.number c) (requests self.old.number c) result }
+        ensures shows { (c : Caller) → Shows self.old c → Shows self.new (ended self.old.number c Unknown) }
+        ensures made { (c : Caller) → Shows self.old c
+            → IsMade (Some (said_of said)) (invokes self.old.number (replied c Unknown)) (requests self.old.number (replied c Unknown)) result }
+        ensures kept { (c : Caller) → Shows self.old c → kept_by self.new ≡ noted (told_all Unknown c.queue) (kept_by self.old) }
         ensures number { self.new.number ≡ self.old.number }
     {
-        match replace(&mut self.busy, None) {
-            Some(busy) => self.begin(busy.waiting, last, Some(said)),
-            None => unreachable!(),
-        }
+        let Some(busy) = replace(&mut self.busy, None) else {
+            unreachable!();
+        };
+        let Busy {
+            mut task,
+            waiting,
+            ..
+        } = busy;
+        task.give_up(calls);
+        self.lines.fill(task.line, task.ended());
+        self.begin(waiting, last, Some(said))
     }
 
     /// A NotLeader about a call: where that call is open, the peer that it names is where the call is sent next.
     #[tactic(auto, using(crate::proofs::Showing::hinted_here, crate::proofs::Showing::hinted_apart, crate::proofs::Showing::hinted_idle))]
     fn on_hint(&mut self, number: u64, hint: u32)
         ensures shows { (c : Caller) → Shows self.old c → Shows self.new (hinted_by c c.call number hint) }
+        ensures kept { kept_by self.new ≡ kept_by self.old }
         ensures number { self.new.number ≡ self.old.number }
     {
         let Some(busy) = &mut self.busy else {
@@ -301,6 +345,7 @@ impl Client {
         requires sound { (c : Caller) × Shows self.old c }
         ensures shows { (c : Caller) → Shows self.old c → OnOk result (Shows self.new (rounded c)) }
         ensures made { (c : Caller) → Shows self.old c → IfOk result (IsMade None None (repeats c.call)) }
+        ensures kept { kept_by self.new ≡ kept_by self.old }
         ensures number { self.new.number ≡ self.old.number }
         ensures err { OnErr result (self.new ≡ self.old) }
     {
@@ -321,6 +366,7 @@ impl Client {
     fn sent_again(&mut self, count: u32)
         ensures open { (b : Busy) → self.old.busy ≡ Some b → self.new.busy ≡ Some (record b { call = record b.call { count = count; hint = 0 } }) }
         ensures last { self.new.last ≡ self.old.last }
+        ensures kept { kept_by self.new ≡ kept_by self.old }
         ensures number { self.new.number ≡ self.old.number }
     {
         if let Some(busy) = &mut self.busy {
@@ -336,6 +382,7 @@ impl Client {
         requires open { (c : Caller) × (call : Open) × Shows self.old c × (c.call ≡ Some call) × (call.count ≡ 64) }
         ensures shows { (c : Caller) → Shows self.old c → OnOk result (Shows self.new (ended self.old.number c Unknown)) }
         ensures made { (c : Caller) → Shows self.old c → IfOk result (IsMade (reply_to c.call Unknown) (invokes self.old.number (replied c Unknown)) (requests self.old.number (replied c Unknown))) }
+        ensures kept { (c : Caller) → Shows self.old c → OnOk result (kept_by self.new ≡ noted (told_all Unknown c.queue) (kept_by self.old)) }
         ensures number { self.new.number ≡ self.old.number }
         ensures err { OnErr result (self.new ≡ self.old) }
     {
@@ -345,10 +392,13 @@ impl Client {
         let Some(busy) = &self.busy else {
             unreachable!();
         };
+        let Some(calls) = busy.task.tally.calls.checked_add(1) else {
+            return Err(NoMemory);
+        };
         let said = Said {
             id: busy.call.id,
             answer: Answer::Unknown,
         };
-        Ok(self.next_statement(last, said))
+        Ok(self.next_statement(last, calls, said))
     }
 }

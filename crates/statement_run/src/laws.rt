@@ -5,7 +5,8 @@ ghost use Rattle.graph_model.specs.declared.answer.Answer.TheVariants.{Conflict,
 ghost use Rattle.graph_model.specs.declared.call_id.CallId.{CallId};
 ghost use Rattle.statement_run.specs.Caller.{Open, Caller};
 ghost use Rattle.statement_run.specs.Story.{Move, CallsInOrder};
-ghost use Rattle.statement_run.specs.Laws.{StopsBehind, LeavesNext, FirstCounts, AnswersOpen, HearsAnswer, UsesHint, CountsOn};
+ghost use Rattle.statement_run.specs.Kept.{Line, Ends, Kept};
+ghost use Rattle.statement_run.specs.Laws.{StopsBehind, LeavesNext, FirstCounts, AnswersOpen, HearsAnswer, UsesHint, CountsOn, HoldsOpen, LeavesOpen, TellsEnded};
 
 /// Behind Conflict, Cancelled or Unknown a statement makes no other call.
 pub fn statements_stop()
@@ -37,4 +38,12 @@ pub fn calls_in_order()
 pub fn rounds_count()
     ensures hint { (c : Caller) → UsesHint c }
     ensures count { (call : Open) → CountsOn call }
+{}
+
+/// A line whose statement hasn't ended has no answer, from when it is queued on, unless it is queued twice; one whose statement has
+/// ended has the fold of its answers.
+pub fn ends_are_told()
+    ensures queued { (k : Kept) → HoldsOpen k }
+    ensures waiting { (k : Kept) → LeavesOpen k }
+    ensures ended { (lines : List Line) (ends : Ends) → TellsEnded lines ends }
 {}

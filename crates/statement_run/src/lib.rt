@@ -24,12 +24,18 @@ mod call;
 mod client;
 mod copies;
 mod effects;
+mod ending;
 mod first;
 mod laws;
+mod lines;
+mod tally;
 mod task;
 mod waiting;
 mod walks;
 
 pub use client::Client;
 pub use effects::{ClientEffects, Invoked, Said};
-pub use laws::{answers_count_once, calls_in_order, replies_leave, rounds_count, statements_stop};
+pub use ending::Ending;
+pub use laws::{
+    answers_count_once, calls_in_order, ends_are_told, replies_leave, rounds_count, statements_stop,
+};

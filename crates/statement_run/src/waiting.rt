@@ -29,6 +29,8 @@ impl Waiting {
     ) -> Result<Waiting, NoMemory>
         requires { 0 < parts }
         ensures waits { IfOk result (λ waiting. Waits waiting) }
+        ensures line { IfOk result (λ waiting. waiting.task.line ≡ line) }
+        ensures bound { IfOk result (λ waiting. waiting.task.bound ≡ bound) }
         ensures fresh { IfOk result (λ waiting. fresh waiting.task ≡ starting (statement_of parts bound)) }
     {
         let task = Task::new(alloc, line, parts, bound)?;

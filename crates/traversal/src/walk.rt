@@ -122,11 +122,25 @@ impl Walk {
         Ok(())
     }
 
+    /// Whether a frontier had too many vertices, so that the walk has ended.
+    pub fn is_wide(&self) -> bool
+        ensures { result ≡ self.now.wide }
+    {
+        self.wide
+    }
+
     /// What the reads of the last step found, by rising vertex of the last frontier.
     pub fn rows(&self) -> &[View]
         requires { spec.next_of self.now ≡ None }
         ensures { result.now ≡ self.now.found }
     {
         self.found.as_slice()
+    }
+
+    /// The same, given up by the walk.
+    pub fn into_rows(self) -> Views
+        ensures { result ≡ self.found }
+    {
+        self.found
     }
 }
