@@ -20,7 +20,7 @@ use chain_leader::{ItemLetters, chain_in};
 use chain_world::ChainEnd;
 use lists::NoMemory;
 use part_fold::{PartState, folded};
-use part_keys::{PrimeRec, Proposal, VidKind};
+use part_keys::{PrimeRec, Proposal};
 use part_rules::Applied;
 use std::alloc::Global;
 
@@ -96,6 +96,7 @@ fn own_sender(leader: &Seated, items: &[(u64, Proposal)], term: u64, of: u64) ->
 
 impl Chains {
     ghost use Rattle.std.specs.Prelude.{◌≡◌, ◌<◌, OnOk};
+    ghost use Rattle.part_keys.specs.declared.vid_kind.VidKind.{VidKind};
     ghost use Rattle.chain_world.specs.World.{after};
     ghost use Rattle.chain_world.specs.declared.event.ChainEvent.TheVariants as happens;
     ghost use Rattle.chain_run.specs.Shows.{world_of};
@@ -104,13 +105,12 @@ impl Chains {
     pub(crate) fn apply(
         &mut self,
         alloc: Global,
-        _ids: VidKind,
         parts: u32,
         part: u32,
         term: u64,
     ) -> Result<(), NoMemory>
         requires { 0 < parts }
-        ensures { OnOk result (world_of self.new ≡ after _ids parts (world_of self.old) (happens.Apply part term)) }
+        ensures { (ids : VidKind) → OnOk result (world_of self.new ≡ after ids parts (world_of self.old) (happens.Apply part term)) }
     {
         let seat = Seat { part, term };
         if !is_part(parts, part) {

@@ -100,26 +100,22 @@ impl Chains {
         match event {
             ChainEvent::Invoke(id, op) => self.invoke(alloc, ids, parts, *id, op),
             ChainEvent::Members(part, term, config) => {
-                self.propose_members(alloc, ids, parts, *part, *term, config)
+                self.propose_members(alloc, parts, *part, *term, config)
             }
             ChainEvent::Lead(part, term, policy, applied) => {
-                self.lead(alloc, ids, parts, *part, *term, *policy, *applied)
+                self.lead(alloc, parts, *part, *term, *policy, *applied)
             }
             ChainEvent::Take(part, term, number) => {
                 self.take_packet(alloc, ids, parts, *part, *term, *number)
             }
             ChainEvent::Decide(part, term, number) => {
-                self.decide(alloc, ids, parts, *part, *term, *number)
+                self.decide(alloc, parts, *part, *term, *number)
             }
-            ChainEvent::Apply(part, term) => self.apply(alloc, ids, parts, *part, *term),
-            ChainEvent::GiveUp(part, term, id) => {
-                self.give_up(alloc, ids, parts, *part, *term, *id)
-            }
-            ChainEvent::Pulse(part, term) => self.pulse(alloc, ids, parts, *part, *term),
-            ChainEvent::See(part, term, id) => self.see(alloc, ids, parts, *part, *term, *id),
-            ChainEvent::Reply(id, answer, number) => {
-                self.reply(alloc, ids, parts, *id, answer, *number)
-            }
+            ChainEvent::Apply(part, term) => self.apply(alloc, parts, *part, *term),
+            ChainEvent::GiveUp(part, term, id) => self.give_up(parts, *part, *term, *id),
+            ChainEvent::Pulse(part, term) => self.pulse(alloc, parts, *part, *term),
+            ChainEvent::See(part, term, id) => self.see(alloc, parts, *part, *term, *id),
+            ChainEvent::Reply(id, answer, number) => self.reply(alloc, *id, answer, *number),
         }
     }
 }

@@ -14,7 +14,7 @@ use crate::listing::{item_at, list_of, push_to};
 use graph_model::{CallId, GStep};
 use lists::{Copied, NoMemory};
 use part_fold::{Numbered, PartState, folded};
-use part_keys::{PartEntry, Proposal, VidKind};
+use part_keys::{PartEntry, Proposal};
 use part_rules::Applied;
 use std::alloc::Global;
 
@@ -144,6 +144,7 @@ impl Chains {
     ghost use Rattle.std.specs.Prelude.{◌≡◌, ◌<◌, OnOk};
     ghost use Rattle.chain_world.specs.Events.{with_decided};
     ghost use Rattle.chain_world.specs.State.{made_by};
+    ghost use Rattle.part_keys.specs.declared.vid_kind.VidKind.{VidKind};
     ghost use Rattle.chain_world.specs.World.{after};
     ghost use Rattle.chain_world.specs.declared.event.ChainEvent.TheVariants as happens;
     ghost use Rattle.chain_run.specs.Shows.{world_of};
@@ -165,14 +166,13 @@ impl Chains {
     pub(crate) fn decide(
         &mut self,
         alloc: Global,
-        _ids: VidKind,
         parts: u32,
         part: u32,
         term: u64,
         number: u64,
     ) -> Result<(), NoMemory>
         requires { 0 < parts }
-        ensures { OnOk result (world_of self.new ≡ after _ids parts (world_of self.old) (happens.Decide part term number)) }
+        ensures { (ids : VidKind) → OnOk result (world_of self.new ≡ after ids parts (world_of self.old) (happens.Decide part term number)) }
     {
         if !is_part(parts, part) {
             return Ok(());

@@ -9,7 +9,7 @@ use crate::listing::{list_of, push_to};
 use chain_leader::{ChainTable, Leader};
 use lists::{Listed, NoMemory};
 use part_fold::Numbered;
-use part_keys::{Policy, Proposal, VidKind};
+use part_keys::{Policy, Proposal};
 use raft_log::Config;
 use std::alloc::Global;
 
@@ -51,6 +51,7 @@ impl Chains {
     ghost use Rattle.std.specs.Prelude.{◌≡◌, ◌==◌, if◌then◌else◌, OnOk};
     ghost use Rattle.chain_world.specs.Events.{may_lead, new_leader};
     ghost use Rattle.chain_world.specs.State.{with_leader};
+    ghost use Rattle.part_keys.specs.declared.vid_kind.VidKind.{VidKind};
     ghost use Rattle.chain_world.specs.World.{after};
     ghost use Rattle.chain_world.specs.declared.event.ChainEvent.TheVariants as happens;
     ghost use Rattle.chain_run.specs.Shows.{world_of};
@@ -59,13 +60,12 @@ impl Chains {
     pub(crate) fn propose_members(
         &mut self,
         alloc: Global,
-        _ids: VidKind,
         parts: u32,
         part: u32,
         term: u64,
         config: &Config,
     ) -> Result<(), NoMemory>
-        ensures { OnOk result (world_of self.new ≡ after _ids parts (world_of self.old) (happens.Members part term config.now)) }
+        ensures { (ids : VidKind) → OnOk result (world_of self.new ≡ after ids parts (world_of self.old) (happens.Members part term config.now)) }
     {
         if !is_part(parts, part) {
             return Ok(());
@@ -113,14 +113,13 @@ impl Chains {
     pub(crate) fn lead(
         &mut self,
         alloc: Global,
-        _ids: VidKind,
         parts: u32,
         part: u32,
         term: u64,
         policy: Policy,
         applied: u64,
     ) -> Result<(), NoMemory>
-        ensures { OnOk result (world_of self.new ≡ after _ids parts (world_of self.old) (happens.Lead part term policy applied)) }
+        ensures { (ids : VidKind) → OnOk result (world_of self.new ≡ after ids parts (world_of self.old) (happens.Lead part term policy applied)) }
     {
         if !is_part(parts, part) {
             return Ok(());

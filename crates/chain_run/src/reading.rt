@@ -14,7 +14,7 @@ use chain_world::ChainEnd;
 use graph_model::{CallId, Query};
 use lists::NoMemory;
 use part_fold::folded;
-use part_keys::{PartEntry, VidKind};
+use part_keys::PartEntry;
 use std::alloc::Global;
 
 // The query of a read of that call.
@@ -60,6 +60,7 @@ fn first_asked(part: u32, id: CallId, posts: &[ChainPost]) -> Option<&Query>
 
 impl Chains {
     ghost use Rattle.std.specs.Prelude.{◌≡◌, ◌<◌, OnOk};
+    ghost use Rattle.part_keys.specs.declared.vid_kind.VidKind.{VidKind};
     ghost use Rattle.chain_world.specs.World.{after};
     ghost use Rattle.chain_world.specs.declared.event.ChainEvent.TheVariants as happens;
     ghost use Rattle.chain_run.specs.Shows.{world_of};
@@ -68,14 +69,13 @@ impl Chains {
     pub(crate) fn see(
         &mut self,
         alloc: Global,
-        _ids: VidKind,
         parts: u32,
         part: u32,
         term: u64,
         id: CallId,
     ) -> Result<(), NoMemory>
         requires { 0 < parts }
-        ensures { OnOk result (world_of self.new ≡ after _ids parts (world_of self.old) (happens.See part term id)) }
+        ensures { (ids : VidKind) → OnOk result (world_of self.new ≡ after ids parts (world_of self.old) (happens.See part term id)) }
     {
         if !is_part(parts, part) {
             return Ok(());

@@ -15,7 +15,6 @@ use chain_leader::ChainBody;
 use chain_world::ChainEnd;
 use graph_model::{Answer, CallId, GStep};
 use lists::NoMemory;
-use part_keys::VidKind;
 use std::alloc::Global;
 
 // Whether the packet is an Answer for the call, with this answer.
@@ -91,7 +90,8 @@ fn push_reply(
 }
 
 impl Chains {
-    ghost use Rattle.std.specs.Prelude.{◌≡◌, OnOk};
+    ghost use Rattle.std.specs.Prelude.{◌≡◌, ℕ, OnOk};
+    ghost use Rattle.part_keys.specs.declared.vid_kind.VidKind.{VidKind};
     ghost use Rattle.chain_world.specs.World.{after};
     ghost use Rattle.chain_world.specs.declared.event.ChainEvent.TheVariants as happens;
     ghost use Rattle.chain_run.specs.Shows.{world_of};
@@ -100,13 +100,11 @@ impl Chains {
     pub(crate) fn reply(
         &mut self,
         alloc: Global,
-        _ids: VidKind,
-        _parts: u32,
         id: CallId,
         answer: &Answer,
         number: u64,
     ) -> Result<(), NoMemory>
-        ensures { OnOk result (world_of self.new ≡ after _ids _parts (world_of self.old) (happens.Reply id answer.now number)) }
+        ensures { (ids : VidKind) (parts : ℕ) → OnOk result (world_of self.new ≡ after ids parts (world_of self.old) (happens.Reply id answer.now number)) }
     {
         if !is_client(id.client) {
             return Ok(());

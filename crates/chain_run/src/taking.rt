@@ -160,6 +160,7 @@ fn takes(
 
 impl Chains {
     ghost use Rattle.std.specs.Prelude.{◌≡◌, ◌<◌, OnOk};
+    ghost use Rattle.part_keys.specs.declared.vid_kind.VidKind.{VidKind};
     ghost use Rattle.chain_world.specs.World.{after};
     ghost use Rattle.chain_world.specs.declared.event.ChainEvent.TheVariants as happens;
     ghost use Rattle.chain_run.specs.Shows.{world_of};
@@ -219,14 +220,12 @@ impl Chains {
     // A leader is told that a call's client waits no longer.
     pub(crate) fn give_up(
         &mut self,
-        _alloc: Global,
-        _ids: VidKind,
         parts: u32,
         part: u32,
         term: u64,
         id: CallId,
     ) -> Result<(), NoMemory>
-        ensures { OnOk result (world_of self.new ≡ after _ids parts (world_of self.old) (happens.GiveUp part term id)) }
+        ensures { (ids : VidKind) → OnOk result (world_of self.new ≡ after ids parts (world_of self.old) (happens.GiveUp part term id)) }
     {
         let seat = Seat { part, term };
         if !is_part(parts, part) {
@@ -247,12 +246,11 @@ impl Chains {
     pub(crate) fn pulse(
         &mut self,
         alloc: Global,
-        _ids: VidKind,
         parts: u32,
         part: u32,
         term: u64,
     ) -> Result<(), NoMemory>
-        ensures { OnOk result (world_of self.new ≡ after _ids parts (world_of self.old) (happens.Pulse part term)) }
+        ensures { (ids : VidKind) → OnOk result (world_of self.new ≡ after ids parts (world_of self.old) (happens.Pulse part term)) }
     {
         if !is_part(parts, part) {
             return Ok(());

@@ -13,7 +13,7 @@ use Rattle.chain_run.proofs.Decides.{applied_on}
 use Rattle.chain_run.proofs.chains.Chains.apply.Goals as goal
 
 pub returns : goal.returns
-returns c =
+returns c = λ ids.
     let held = c.args.self.now in
     let parts = c.args.parts in
     let p = c.args.part in
@@ -26,7 +26,7 @@ returns c =
     let there : slice_get decided l.applied ≡ Some d = ap (λ (s : Seated). slice_get decided s.applied) (sym same) ∙ ap (λ is. slice_get is c.in-Some.leader.now.applied) (sym c.list_of-decided.ensures) ∙ sym c.in-Some-item_at.ensures in
     let front = c.front-items.ensures ∙ ap (take l.applied) c.list_of-decided.ensures in
     on_ok_weaker c.push_any-3.result
-    (λ post. applied_next c.args._ids parts held p t l (sym c.is_part.ensures ∙ c.if-not-is_part.false) (sym c.in-Some-remove.ensures.leader) _ d there (le-leb d.0 t (omega arith))
+    (λ post. applied_next ids parts held p t l (sym c.is_part.ensures ∙ c.if-not-is_part.false) (sym c.in-Some-remove.ensures.leader) _ d there (le-leb d.0 t (omega arith))
     (applied_on held _ parts p t l made d c.own_sender-sender.result c.in_ok-sent.sent.told c.in_ok-sent.sent.back c.in_ok-sent.sent.rule c.front-items.result.now front there
     c.in_ok-sent.ensures.leader c.in_ok-sent.ensures.answers c.in_ok-sent.ensures.rules c.own_sender-sender.ensures refl refl refl refl
     (c.in_ok-put.ensures ∙ ap (λ m. insert m (seat p t) made) c.remove.ensures.others)

@@ -10,7 +10,7 @@ use Rattle.chain_run.proofs.Seen.{shown}
 use Rattle.chain_run.proofs.chains.Chains.see.Goals as goal
 
 pub returns : goal.returns
-returns c =
+returns c = λ ids.
     let held = c.args.self.now in
     let parts = c.args.parts in
     let p = c.args.part in
@@ -22,6 +22,6 @@ returns c =
     let asked = ap (λ posts. first_asked p id (posted posts)) (sym c.as_slice.ensures) ∙ sym c.in-Some-first_asked.ensures in
     let part : part_of c.in_ok-machine.machine ≡ folded parts (take l.applied (list_in held.decided p)) = c.in_ok-machine.ensures ∙ ap (folded parts) (c.front.ensures ∙ ap (take l.applied) c.list_of-decided.ensures) in
     on_ok_weaker c.push_post.result
-    (λ post. saw c.args._ids parts held p t l (sym c.is_part.ensures ∙ c.if-not-is_part.false) (sym c.in-Some.ensures) _ id query c.if-not-leader.false all asked
+    (λ post. saw ids parts held p t l (sym c.is_part.ensures ∙ c.if-not-is_part.false) (sym c.in-Some.ensures) _ id query c.if-not-leader.false all asked
     (shown held _ parts p t l id query c.read.result c.len-moment.result (c.read.ensures.read (folded parts (take l.applied (list_in held.decided p))) query (c.in_ok-found.ensures ∙ ap (view query) part)) c.len-moment.ensures refl refl refl refl refl post))
     c.push_post.ensures
