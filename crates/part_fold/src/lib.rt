@@ -30,6 +30,6 @@ pub use folding::folded;
 pub use in_halves::InHalves;
 pub use numbered::Numbered;
 pub use out_halves::OutHalves;
-pub use standing::{Standing, copied_chain};
+pub use standing::Standing;
 pub use state::PartState;
 pub use tags::Tags;

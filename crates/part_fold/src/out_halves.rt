@@ -88,6 +88,7 @@ impl OutHalves {
     ) -> Result<(), NoMemory>
         ensures { OnOk result (view.new ≡ view.old ++ filter_map (found_out v.now types.now) (map.entries self.now)) }
     {
+        // Of a map whose length was asked for it is known that its entries stand in order.
         let _count = self.kept.len();
         push_all(alloc, view, &self.kept, v, types)?;
         Ok(())

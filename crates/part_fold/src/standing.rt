@@ -84,6 +84,7 @@ impl Standing {
     pub fn on(&self, edge: &EdgeId) -> Option<CallId>
         ensures { result ≡ option_map id_of (chain_among (map.entries self.now) edge.now) }
     {
+        // Of a map whose length was asked for it is known that its entries stand in order.
         let _count = self.kept.len();
         first_on(&self.kept, edge)
     }
@@ -92,6 +93,7 @@ impl Standing {
     pub fn behind(&self, alloc: Global, after: u64) -> Result<Listed<PrimeRec>, NoMemory>
         ensures { IfOk result (λ list. list ≡ prelude.map rec_of (filter (is_behind after) (map.entries self.now))) }
     {
+        // Of a map whose length was asked for it is known that its entries stand in order.
         let _count = self.kept.len();
         let list = all_behind(alloc, &self.kept, after)?;
         Ok(list)
@@ -122,8 +124,8 @@ fn first_on(kept: &BTreeMap<u64, PrimeRec>, edge: &EdgeId) -> Option<CallId>
     None
 }
 
-/// An equal chain. Refused for want of memory alone.
-pub fn copied_chain(alloc: Global, chain: &PrimeRec) -> Result<PrimeRec, NoMemory>
+// An equal chain. Refused for want of memory alone.
+fn copied_chain(alloc: Global, chain: &PrimeRec) -> Result<PrimeRec, NoMemory>
     ensures { IfOk result (λ copy. copy ≡ chain.now) }
 {
     Ok(PrimeRec {
