@@ -1,14 +1,19 @@
-use Rattle.std.proofs.Common.{◌≡◌, Some, true, refl, ap, sym, ◌∙◌, arith}
+use Rattle.std.proofs.Common.{◌≡◌, ℕ, Some, true, refl, ap, sym, ◌∙◌, arith}
 use Rattle.std.specs.Prelude.{nat_le, slice_get, take, ◌++◌}
 use Rattle.std.specs.FinMap.{insert}
-use Rattle.std.proofs.lemmas.Bool.{le-leb}
+use Rattle.std.proofs.lemmas.Bool.{le-leb, lt-leb}
+use Rattle.std.specs.Option.{option_map}
+use Rattle.part_keys.specs.declared.proposal.Proposal.{Proposal}
+use Rattle.chain_world.specs.Events.{holds_of, is_part, next_entry}
+use Rattle.chain_world.specs.State.{Leader}
+use Rattle.chain_world.specs.declared.event.ChainEvent.TheVariants as event
 use Rattle.std.proofs.lemmas.Option.{same_Some}
 use Rattle.std.proofs.lemmas.Result.{on_ok_weaker}
 use Rattle.std.specs.Option.{option_to_list}
 use Rattle.chain_world.specs.State.{posts_of}
 use Rattle.chain_run.specs.declared.leaders.Seated.{Seated}
-use Rattle.chain_run.specs.Shows.{list_in, seat}
-use Rattle.chain_run.proofs.Happening.{applied_next}
+use Rattle.chain_run.specs.Shows.{list_in, leader_of, seat, world_of}
+use Rattle.chain_run.proofs.Happening.{nothing, fails_right, applied_next}
 use Rattle.chain_run.proofs.Decides.{applied_on}
 use Rattle.chain_run.proofs.chains.Chains.apply.Goals as goal
 
@@ -32,3 +37,16 @@ returns c = λ ids.
     (c.in_ok-put.ensures ∙ ap (λ m. insert m (seat p t) made) c.remove.ensures.others)
     (post ∙ ap (λ q. q ++ posts_of p t c.own_sender-sender.result (option_to_list c.in_ok-sent.sent.rule)) (c.in_ok-push_any-2.ensures ∙ ap (λ q. q ++ posts_of p t c.own_sender-sender.result (option_to_list c.in_ok-sent.sent.back)) c.in_ok-push_any.ensures))))
     c.push_any-3.ensures
+
+pub returns-then-item-term : goal.returns-then-item-term
+returns-then-item-term c = λ ids.
+    let s = world_of c.args.self.now in
+    let p = c.args.part in
+    let t = c.args.term in
+    let l = leader_of c.in-Some.leader.now in
+    let decided = list_in c.args.self.now.decided p in
+    let d = c.in-Some-item_at.item.now in
+    let at = ap (option_map leader_of) (sym c.in-Some.ensures) in
+    let there : slice_get decided l.applied ≡ Some d = ap (λ is. slice_get is l.applied) (sym c.list_of-decided.ensures) ∙ sym c.in-Some-item_at.ensures in
+    nothing ids c.args.parts s (event.Apply p t)
+    (fails_right (is_part c.args.parts p) _ (ap (holds_of (λ (m : Leader). holds_of (λ (e : ℕ × Proposal). nat_le e.0 t) (next_entry s p m))) at ∙ ap (holds_of (λ (e : ℕ × Proposal). nat_le e.0 t)) there ∙ lt-leb d.0 t c.if-item-term.true))
