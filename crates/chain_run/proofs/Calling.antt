@@ -1,12 +1,10 @@
 -- Nothing has happened, a call is made, and a call ends: what is kept is the world behind it.
-use Rattle.std.proofs.Common.{◌≡◌, ℕ, List, [], ◌∷◌, ◌++◌, Option, None, Some, Bool, true, ap, sym, ◌∙◌}
+use Rattle.std.proofs.Common.{◌≡◌, ℕ, [], ◌∷◌, ◌++◌, Option, None, Some, true, ap, sym, ◌∙◌}
 use Rattle.std.specs.Prelude.{◌||◌, ◌==◌, if◌then◌else◌, slice_get}
 use Rattle.std.specs.FinMap.{empty, insert}
-use Rattle.std.specs.Option.{option_map}
 use Rattle.std.proofs.lemmas.Bool.{and_from}
 use Rattle.graph_model.specs.declared.answer.Answer.{Answer}
 use Rattle.graph_model.specs.declared.call_id.CallId.{CallId}
-use Rattle.graph_model.specs.declared.graph_step.GStep.{GStep}
 use Rattle.graph_model.specs.declared.graph_step.GStep.TheVariants as step
 use Rattle.graph_model.specs.declared.op.Op.{Op}
 use Rattle.graph_model.specs.Same.{is_unknown}
@@ -21,9 +19,9 @@ use Rattle.chain_world.specs.Ledger.{reply_steps}
 use Rattle.chain_world.specs.State.{Post, Chains as World, start, packet_of, post_of}
 use Rattle.chain_world.specs.World.{after}
 use Rattle.chain_run.specs.declared.chains.Chains.{Chains}
-use Rattle.chain_run.specs.Shows.{list_in, posted, post_in, leader_in, client_in, world_of}
+use Rattle.chain_run.specs.Shows.{list_in, posted, leader_in, client_in, world_of}
 use Rattle.chain_run.proofs.Keeping.{list_none, leader_none, client_none, called}
-use Rattle.chain_run.proofs.Happening.{same_world, happens, post_at}
+use Rattle.chain_run.proofs.Happening.{same_world, happens}
 
 pub started : (n : Chains) → n.steps ≡ [] → n.decided ≡ empty → n.founded ≡ empty → n.leaders ≡ empty → n.posts ≡ [] → n.callers ≡ empty → world_of n ≡ start
 started n steps decided founded leaders posts callers =

@@ -17,9 +17,9 @@ use Rattle.chain_leader.specs.Applying.{IsBehind, chain_at}
 use Rattle.chain_leader.specs.Leader.{leads, StandsBehind, BeganBehind}
 use Rattle.chain_leader.specs.Leading.{Applies, on_item}
 use Rattle.chain_world.specs.declared.packet.ChainEnd.{ChainEnd}
-use Rattle.chain_world.specs.Ledger.{call_at, steps_of_item, next_applied}
+use Rattle.chain_world.specs.Ledger.{call_at, steps_of_item}
 use Rattle.chain_world.specs.Events.{with_decided, applying, own_sender}
-use Rattle.chain_world.specs.State.{Leader, posts_of, addressed}
+use Rattle.chain_world.specs.State.{posts_of, addressed}
 use Rattle.chain_run.specs.declared.chains.Chains.{Chains}
 use Rattle.chain_run.specs.declared.leaders.Seated.{Seated}
 use Rattle.chain_run.specs.Shows.{list_in, posted, leader_of, seat, leader_in, client_in, world_of}

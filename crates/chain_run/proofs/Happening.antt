@@ -1,29 +1,27 @@
 -- An event that isn't lawful changes nothing, and one that is has its effect: what each leaves in memory is the world behind it.
-use Rattle.std.proofs.Common.{◌≡◌, ℕ, zero, suc, map, List, [], ◌∷◌, ◌++◌, Option, None, Some, Bool, true, false, length, take, refl, ap, sym, ◌∙◌}
-use Rattle.std.specs.Prelude.{◌&&◌, ◌==◌, if◌then◌else◌, is_some, slice_get, nat_le, nat_lt}
-use Rattle.std.specs.FinMap.{FinMap, get, insert, remove}
+use Rattle.std.proofs.Common.{◌≡◌, ℕ, zero, suc, map, List, [], ◌∷◌, ◌++◌, Option, None, Some, Bool, true, false, length, refl, ap, sym, ◌∙◌}
+use Rattle.std.specs.Prelude.{◌&&◌, ◌==◌, if◌then◌else◌, is_some, slice_get, nat_le}
+use Rattle.std.specs.FinMap.{get, insert, remove}
 use Rattle.std.specs.Option.{option_map}
 use Rattle.std.proofs.lemmas.Bool.{and_from, cond-true, cond-false, eq-eqb}
 use Rattle.graph_model.specs.declared.call_id.CallId.{CallId}
-use Rattle.graph_model.specs.declared.graph_step.GStep.{GStep}
-use Rattle.graph_model.specs.declared.op.Op.{Op}
 use Rattle.graph_model.specs.declared.query.Query.{Query}
 use Rattle.part_keys.specs.declared.proposal.Proposal.{Proposal}
 use Rattle.part_keys.specs.declared.vid_kind.VidKind.{VidKind}
 use Rattle.chain_leader.specs.Leader.{leads}
-use Rattle.chain_leader.specs.Leading.{given_up, pulsed, taken, on_item}
+use Rattle.chain_leader.specs.Leading.{given_up, pulsed}
 use Rattle.chain_world.specs.declared.event.ChainEvent.{ChainEvent}
 use Rattle.chain_world.specs.declared.event.ChainEvent.TheVariants as event
 use Rattle.raft_log.specs.declared.config.Config.{Config}
 use Rattle.part_keys.specs.declared.proposal.Proposal.TheVariants.{Members}
 use Rattle.chain_run.specs.declared.posts.ChainPost.{ChainPost}
-use Rattle.chain_world.specs.Events.{with_made, is_unfounded, may_decide, with_decided, is_part, holds_of, where_some, is_led, is_to, with_taken, taking, next_entry, applying, with_applied, own_sender, behind_taking, knows_all, first_asked, shown_by}
+use Rattle.chain_world.specs.Events.{with_made, is_unfounded, may_decide, with_decided, is_part, holds_of, where_some, is_led, is_to, with_taken, taking, next_entry, applying, knows_all, first_asked, shown_by}
 use Rattle.chain_world.specs.State.{Post, Leader, Chains as World, made_by, with_leader, with_founded, with_posts, posts_of}
 use Rattle.chain_world.specs.World.{rule, after}
 use Rattle.chain_run.specs.declared.chains.Chains.{Chains}
 use Rattle.chain_run.specs.declared.leaders.Seated.{Seated}
 use Rattle.chain_run.specs.Shows.{list_in, posted, post_in, leader_of, seat, leader_in, client_in, world_of}
-use Rattle.chain_run.proofs.Keeping.{seated, seated_again}
+use Rattle.chain_run.proofs.Keeping.{seated_again}
 
 module _ (ids : VidKind) (parts : ℕ) (s : World) (e : ChainEvent) where
   pub nothing : (rule ids parts s e).lawful ≡ false → s ≡ after ids parts s e

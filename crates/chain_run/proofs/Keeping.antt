@@ -1,5 +1,5 @@
 -- What is kept by part, by client and by seat: what is there behind a change.
-use Rattle.std.proofs.Common.{◌≡◌, ℕ, List, [], ◌∷◌, ◌++◌, Option, None, Some, Bool, true, false, cond, inl, inr, refl, ap, sym, ◌∙◌}
+use Rattle.std.proofs.Common.{◌≡◌, ℕ, List, [], Option, None, Some, Bool, true, false, cond, inl, inr, refl, ap, sym, ◌∙◌}
 use Rattle.std.specs.Prelude.{◌==◌, ◌&&◌, if◌then◌else◌}
 use Rattle.std.specs.declared.cmp.Ordering.{Ordering}
 use Rattle.std.specs.declared.cmp.Ordering.TheVariants.{Less, Equal, Greater}
@@ -8,9 +8,7 @@ use Rattle.std.specs.Option.{option_map, unwrap_or}
 use Rattle.std.specs.Ordering.{eq_by_cmp, is_eq, nat_cmp, ordering_then}
 use Rattle.std.proofs.lemmas.Bool.{eq-eqb, ne_eqb}
 use Rattle.maps.proofs.Keys.{nat_keys, same_or_apart, same_itself, not_apart}
-use Rattle.chain_world.specs.State.{Leader, Client}
 use Rattle.chain_run.specs.declared.callers.Caller.{Caller}
-use Rattle.chain_run.specs.declared.leaders.Seat.{Seat}
 use Rattle.chain_run.specs.declared.leaders.Seated.{Seated}
 use Rattle.chain_run.specs.Seats.{seat_cmp}
 use Rattle.chain_run.specs.Shows.{list_in, leader_of, seat, leader_in, client_of, client_in}

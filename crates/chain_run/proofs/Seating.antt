@@ -1,5 +1,5 @@
 -- A leader that is new, and a configuration that is proposed, as the world has it.
-use Rattle.std.proofs.Common.{◌≡◌, ℕ, List, [], ◌∷◌, ◌++◌, Option, None, Some, Bool, true, false, length, refl, ap, sym, ◌∙◌}
+use Rattle.std.proofs.Common.{◌≡◌, ℕ, List, [], ◌∷◌, ◌++◌, Some, true, false, length, ap, ◌∙◌}
 use Rattle.std.specs.Prelude.{◌&&◌, ◌==◌, if◌then◌else◌}
 use Rattle.std.specs.FinMap.{get, empty, insert, remove, get-empty}
 use Rattle.std.specs.Ordering.{nat_cmp}
@@ -10,7 +10,7 @@ use Rattle.part_keys.specs.declared.proposal.Proposal.TheVariants.{Start, Member
 use Rattle.part_keys.specs.declared.vid_kind.VidKind.{VidKind}
 use Rattle.raft_log.specs.declared.config.Config.{Config}
 use Rattle.chain_world.specs.declared.event.ChainEvent.TheVariants as event
-use Rattle.chain_world.specs.Events.{is_part, is_unfounded, may_lead, new_leader, with_made}
+use Rattle.chain_world.specs.Events.{is_part, may_lead, new_leader, with_made}
 use Rattle.chain_world.specs.State.{with_leader, with_founded}
 use Rattle.chain_world.specs.World.{after}
 use Rattle.chain_run.specs.declared.chains.Chains.{Chains}

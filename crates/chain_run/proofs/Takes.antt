@@ -1,6 +1,6 @@
 -- What a leader takes of a packet, as the world has it.
-use Rattle.std.proofs.Common.{◌≡◌, ℕ, List, [], ◌∷◌, ◌++◌, Option, None, Some, Bool, true, false, cond, length, map, take, refl, ap, sym, ◌∙◌}
-use Rattle.std.specs.Prelude.{◌&&◌, ◌==◌, if◌then◌else◌, nat_lt}
+use Rattle.std.proofs.Common.{◌≡◌, ℕ, List, [], ◌++◌, Option, None, Bool, true, false, cond, length, map, take, refl, ap, ◌∙◌}
+use Rattle.std.specs.Prelude.{◌&&◌, ◌==◌, nat_lt}
 use Rattle.std.specs.FinMap.{FinMap, entries, insert, remove}
 use Rattle.std.specs.List.{filter}
 use Rattle.std.specs.Option.{unwrap_or}
@@ -8,7 +8,6 @@ use Rattle.std.specs.Ordering.{nat_cmp}
 use Rattle.std.proofs.lemmas.List.{length-map, take-map}
 use Rattle.part_keys.specs.declared.chain.PrimeRec.{PrimeRec}
 use Rattle.part_keys.specs.declared.proposal.Proposal.{Proposal}
-use Rattle.part_keys.specs.declared.proposal.Proposal.TheVariants.{Made}
 use Rattle.part_keys.specs.declared.vid_kind.VidKind.{VidKind}
 use Rattle.part_rules.specs.Part.{Part}
 use Rattle.part_rules.specs.Folded.{folded}
@@ -22,8 +21,8 @@ use Rattle.chain_leader.specs.Leading.{Leading, Taken, still, resuming, standing
 use Rattle.chain_leader.specs.Resuming.{AreStanding}
 use Rattle.chain_world.specs.declared.packet.ChainEnd.{ChainEnd}
 use Rattle.chain_world.specs.declared.packet.ChainPacket.{ChainPacket}
-use Rattle.chain_world.specs.Events.{sender_of, behind_taking, part_from, kept_sender, taking}
-use Rattle.chain_world.specs.State.{Leader, posts_of}
+use Rattle.chain_world.specs.Events.{behind_taking, part_from, kept_sender, taking}
+use Rattle.chain_world.specs.State.{posts_of}
 use Rattle.chain_run.specs.declared.chains.Chains.{Chains}
 use Rattle.chain_run.specs.declared.leaders.Seated.{Seated}
 use Rattle.chain_run.specs.Shows.{list_in, posted, leader_of, seat, client_in, world_of}

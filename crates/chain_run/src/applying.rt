@@ -16,23 +16,13 @@ use crate::leaders::{Seat, Seated};
 use crate::leading::front;
 use crate::listing::{item_at, list_of};
 use crate::posts::push_any;
-use chain_leader::{ItemLetters, chain_in};
+use chain_leader::{ItemLetters, chain_at};
 use chain_world::ChainEnd;
 use lists::NoMemory;
 use part_fold::{PartState, folded};
 use part_keys::{PrimeRec, Proposal};
 use part_rules::Applied;
 use std::alloc::Global;
-
-// The chain that an item may end.
-fn chain_at(item: &Proposal) -> Option<u64>
-    ensures { result ≡ chain_at item.now }
-{
-    let Proposal::Made(entry) = item else {
-        return None;
-    };
-    chain_in(entry)
-}
 
 // The record of the chain that an item with that answer began, as it stands in the part.
 fn began_in<'a>(machine: &'a PartState, said: &Applied) -> Option<&'a PrimeRec>

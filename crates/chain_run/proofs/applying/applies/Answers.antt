@@ -1,7 +1,6 @@
-use Rattle.std.proofs.Common.{◌≡◌, ◌+◌, length, refl, ap, sym, ◌∙◌}
+use Rattle.std.proofs.Common.{◌+◌, length, ap, sym, ◌∙◌}
 use Rattle.std.specs.Option.{option_copied}
 use Rattle.part_fold.specs.State.{part_of}
-use Rattle.part_rules.specs.Part.{Part}
 use Rattle.part_rules.specs.Folded.{item_applied, folded}
 use Rattle.chain_leader.specs.Leading.{Leading}
 use Rattle.chain_run.specs.Shows.{leader_of}

@@ -1,4 +1,4 @@
-use Rattle.std.proofs.Common.{refl, sym, ◌∙◌}
+use Rattle.std.proofs.Common.{refl, sym}
 use Rattle.std.proofs.lemmas.Result.{on_ok_weaker}
 use Rattle.chain_run.proofs.Proposing.{proposed_from, proposed_alone}
 use Rattle.chain_run.proofs.taking.propose_entry.Goals as goal

@@ -1,4 +1,4 @@
-use Rattle.std.proofs.Common.{◌≡◌, map, length, take, refl, ap, sym, ◌∙◌}
+use Rattle.std.proofs.Common.{map, take, refl, ap, sym, ◌∙◌}
 use Rattle.std.specs.Prelude.{nat_lt}
 use Rattle.std.specs.FinMap.{entries}
 use Rattle.std.specs.List.{filter}

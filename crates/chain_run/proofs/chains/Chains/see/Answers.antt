@@ -3,7 +3,7 @@ use Rattle.std.proofs.lemmas.Result.{on_ok_weaker}
 use Rattle.part_fold.specs.State.{part_of}
 use Rattle.part_rules.specs.Folded.{folded}
 use Rattle.part_rules.specs.View.{view}
-use Rattle.std.specs.Prelude.{◌==◌, ◌&&◌, false}
+use Rattle.std.specs.Prelude.{◌==◌, false}
 use Rattle.std.specs.Option.{option_map}
 use Rattle.std.proofs.lemmas.Bool.{ne_eqb}
 use Rattle.chain_world.specs.State.{Leader}
