@@ -2,3 +2,4 @@ pub mod Own
 pub mod Kept
 pub mod OnDisk
 pub mod Steps
+pub mod Changed

@@ -1,5 +1,5 @@
 //! What holds of each step.
-ghost use Rattle.std.specs.Prelude.{◌≡◌};
+ghost use Rattle.std.specs.Prelude.{◌≡◌, ◌↔◌, None};
 ghost use Rattle.raft_core.specs.Laws.{IsPeer};
 ghost use Rattle.replica_file.specs.Durable.{kept};
 ghost use Rattle.replica_model.specs.declared.input.Input.{Input};
@@ -18,4 +18,9 @@ pub fn own_records()
 /// What is durable behind a step is what was, with the step's one record, in each state that its peer may come to.
 pub fn durable_behind()
     ensures { (home : Home) (r : Replica) (i : Input) → IsPeer r.core → durable_of (stepped home r i).replica ≡ kept (durable_of r) (stepped home r i).kept }
+{}
+
+/// A step has a record exactly where what is durable changes: so the file tells whether a step that was stopped is in it.
+pub fn records_tell_changes()
+    ensures { (home : Home) (r : Replica) (i : Input) → IsPeer r.core → ((stepped home r i).kept ≡ None) ↔ (durable_of (stepped home r i).replica ≡ durable_of r) }
 {}

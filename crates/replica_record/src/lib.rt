@@ -8,7 +8,7 @@
 //! before, or that with the record (`any_moment`), and so does what is read behind it (`left`); once it answered Ok each image has
 //! the latter (`acknowledged`); without a record the file isn't touched (`untouched`). Laws of each step
 //! of a replica: each entry of its record may stand in its file, so no file that only steps wrote is found bad (`own_records`); and what is
-//! durable behind it is what was, with its one record (`durable_behind`).
+//! durable behind it is what was, with its one record (`durable_behind`), which it has exactly where that changes (`records_tell_changes`).
 //!
 //! Below are `replica_model`, `replica_state` and `replica_file`; above is a replica on its disk.
 #![tactic(auto)]
@@ -18,5 +18,5 @@ mod laws;
 mod payloads;
 
 pub use framing::{make_durable, make_frame};
-pub use laws::{durable_behind, own_records};
+pub use laws::{durable_behind, own_records, records_tell_changes};
 pub use payloads::PartPayloads;
