@@ -1,3 +1,4 @@
 pub mod Who
 pub mod Durable
 pub mod Replica
+pub mod Spelled

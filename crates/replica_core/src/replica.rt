@@ -20,7 +20,9 @@ ghost use Rattle.replica_record.specs.Durable.{durable_of};
 ghost use Rattle.replica_core.specs.Durable.{came_up, IsBeforeOrBehind, IsNotBad};
 ghost use Rattle.replica_record.specs.Own.{allowed_in};
 ghost use Rattle.replica_core.specs.Replica.{home_of, state_of, disk_of, step_of, IsSound, IsRoomFor, Gives, seen_of};
+ghost use Rattle.replica_core.specs.Spelled.{HaveSpellings};
 ghost use Rattle.replica_core.specs.Who as of;
+ghost use Rattle.replica_spelling.specs.Spelled.{IsSpelled, IsSpelledInput};
 
 use crate::effects::{Down, Effects};
 use crate::room::Room;
@@ -34,6 +36,7 @@ use replica_file::{Durable, LogFile, founded};
 use replica_model::Input;
 use replica_peer::Peer;
 use replica_record::{PartPayloads, make_durable, make_frame};
+use replica_spelling::leaves_are_spelled;
 use std::alloc::Global;
 use wal_disk::{OpenWhy, WalRefused};
 
@@ -164,6 +167,9 @@ impl<D: Disk> Replica<D> {
 
         ensures sound { IsSound D.reads D.may_leave self.new }
 
+        // What is given has a spelling, where all that the replica holds and what came has one.
+        ensures spelled { (i : Given) → IsRoomFor D.room_calls D.room_bytes self.old i room → IsSpelled (home_of self.old) (state_of self.old) → IsSpelledInput (home_of self.old) i → IfOk result (λ e. HaveSpellings e.packets) }
+
         // Where packets are given, each crash leaves what is durable behind the step.
         ensures acknowledged { (i : Given) (bytes image : List ℕ) → IsRoomFor D.room_calls D.room_bytes self.old i room → D.reads (disk_of self.new) ≡ Some bytes → D.may_leave (disk_of self.new) image
             → OnOk result (HasState (allowed_in (home_of self.old)) (durable_of (step_of self.old i).replica) image) }
@@ -185,6 +191,7 @@ impl<D: Disk> Replica<D> {
         ensures home { home_of self.new ≡ home_of self.old }
         ensures told { is_some (D.reads (disk_of self.new)) ≡ is_some (D.reads (disk_of self.old)) }
     {
+        leaves_are_spelled();
         if !self.up {
             return Err(Down);
         }

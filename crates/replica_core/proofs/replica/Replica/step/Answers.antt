@@ -1,4 +1,4 @@
-use Rattle.std.proofs.Common.{rules, ◌≡◌, Option, false, subst, refl}
+use Rattle.std.proofs.Common.{rules, ◌≡◌, Option, false, subst, refl, sym}
 use Rattle.std.specs.Prelude.{is_err}
 use Rattle.disk_model.specs.Disk.{LeavesOnly}
 use Rattle.raft_log.specs.declared.record.Record.{Record}
@@ -9,6 +9,9 @@ use Rattle.replica_record.specs.Own.{allowed_in}
 use Rattle.replica_record.proofs.OnDisk.{image_has_state}
 use Rattle.replica_core.specs.Replica.{home_of, state_of, step_of}
 use Rattle.replica_core.proofs.Stepping.{ok_of, kept_behind}
+use Rattle.kv_part.specs.MapStore.{contents, has_place_for}
+use Rattle.replica_core.specs.Spelled.{HaveSpellings}
+use Rattle.replica_core.proofs.Spelled.{at_home, packets_spelled}
 use Rattle.replica_core.proofs.replica.Replica.step.Goals as goal
 
 pub returns-then-is_err-clause-any_moment : goal.returns-then-is_err-clause-any_moment
@@ -59,3 +62,11 @@ returns-clause-left g c i bytes next room up told told_after =
     let old = c.args.self.now in
     subst (λ (r : Option Record). HasEither (allowed_in (home_of old)) (durable_of (state_of old)) r next) room.made.kept
     (c.make_durable.ensures.left (allowed_in (home_of old)) (durable_of (state_of old)) c.args.room.made.kept bytes next room.framed (c.requires.sound.kept up) told told_after)
+
+pub returns-clause-spelled : goal.returns-clause-spelled
+returns-clause-spelled g c i room is heard =
+    let old = c.args.self.now in
+    let leaves = (step_of old i).leaves in
+    subst HaveSpellings (sym c.take-packets.ensures.leaves)
+    (packets_spelled c.args.room.made.leaves leaves room.made.leaves
+    (c.leaves_are_spelled.ensures.leaves (home_of old) (state_of old) i (at_home contents has_place_for old.peer c.requires.sound.peer) is heard))
