@@ -1,10 +1,7 @@
 -- What leaves in a step has spellings, as the program has it.
-use Rattle.std.proofs.Common.{◌≡◌, ℕ, ◌<◌, ◌≤◌, Bool, List, [], ◌∷◌, map, refl, ap, sym, subst, arith}
-use Rattle.std.specs.List.{AllByRecursion}
+use Rattle.std.proofs.Common.{◌≡◌, ℕ, Bool, List, [], ◌∷◌, map, refl, sym, subst, arith}
 use Rattle.kv_part.specs.Store.{Contents}
 use Rattle.part_store.specs.Settings.{IsSetting}
-use Rattle.part_store.specs.declared.setting.Setting.{Setting}
-use Rattle.packet_codec.specs.Fits.{HasSpelling}
 use Rattle.replica_model.specs.Stepped.{Leaving}
 use Rattle.replica_state.specs.Leaving.{leaving_of}
 use Rattle.replica_state.specs.declared.leaving.Leaving.{Leaving as Packed}

@@ -11,9 +11,10 @@
 //! `Down` comes only where the disk's count of faults rose in this call, or where it came before (`cause`, `up`); then the file
 //! is opened again. `open` gives the fold of the file's records, a follower with commit 0 (`opened`, `found`), or `BadFile`
 //! exactly where the file is none of this replica (`cause`), which no file is that these calls made and wrote (`never_bad`).
+//! Where all that the replica holds and what came has a spelling, so has each packet that leaves (`spelled`).
 //!
-//! Reading order: `specs/Replica`; `who`, `room`, `effects`, `replica`. Below are `replica_peer`, `replica_record` and
-//! `replica_file`; above is the world of replicas.
+//! Reading order: `specs/Replica`; `who`, `room`, `effects`, `replica`. Below are `replica_peer`, `replica_record`,
+//! `replica_file` and `replica_spelling`; above is the world of replicas.
 #![tactic(auto)]
 
 mod effects;

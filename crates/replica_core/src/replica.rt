@@ -141,6 +141,9 @@ impl<D: Disk> Replica<D> {
         requires sound { IsSound D.reads D.may_leave self.old }
         requires heard { IsHeard input }
         ensures room { IfOk result (IsRoomFor D.room_calls D.room_bytes self.new input) }
+
+        // What will leave has a spelling, where all that the replica holds and what came has one.
+        ensures spelled { IsSpelled (home_of self.new) (state_of self.new) → IsSpelledInput (home_of self.new) input → IfOk result (λ room. HaveSpellings room.made.leaves) }
         ensures sound { IsSound D.reads D.may_leave self.new }
         ensures same { state_of self.new ≡ state_of self.old }
         ensures home { home_of self.new ≡ home_of self.old }
@@ -149,6 +152,7 @@ impl<D: Disk> Replica<D> {
         ensures any_moment { LeavesOnly D.clock D.left_since (disk_of self.old) (disk_of self.new) (D.may_leave (disk_of self.old)) }
         ensures faults { D.faults (disk_of self.new) ≡ D.faults (disk_of self.old) }
     {
+        leaves_are_spelled();
         let made = self.peer.plan(alloc, input)?;
         let frame = make_frame(alloc, &mut self.file, made.kept())?;
         Ok(Room { made, frame })

@@ -11,7 +11,7 @@
 //! the entries of an Append fit, as those do whose payloads are bytes ([`bytes_fit`]), and so each packet that was read of bytes
 //! ([`read_packets_are_spelled`]).
 //!
-//! Below are `replica_model`, `replica_state` and `packet_codec`; nothing stands above it yet.
+//! Below are `replica_model`, `replica_state` and `packet_codec`; above is `replica_core`.
 #![tactic(auto)]
 
 mod laws;
